@@ -1,0 +1,22 @@
+//! The types that every crate shares, and the few functions and definitions that stand on them alone: numbers with
+//! a meaning, calls, requests, replies, frame heads, configurations, schedules, printed lines, and the trait of a
+//! space of bytes.
+//!
+//! A contract sees a struct as the record of its fields and an enum as its variants. A list type, `Bytes` among them,
+//! is seen as a list, a `Pid` as its number, and a `Steps` as the number of steps taken. Which frames, answers and
+//! lines are right is left to the crates that make them; the rules stand in `flat_model`.
+#![tactic(auto)]
+
+pub mod call;
+pub mod config;
+pub mod frame;
+pub mod items;
+pub mod line;
+pub mod numbers;
+pub mod page;
+pub mod reply;
+pub mod request;
+pub mod schedule;
+pub mod small_reply;
+pub mod space;
+pub mod steps;
