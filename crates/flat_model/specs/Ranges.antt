@@ -1,0 +1,63 @@
+-- The ranges of requests, and of all numbers that Rust's types bound. Definitions range over every number; where a
+-- law needs a bound of a type, this is where it stands.
+use Rattle.std.specs.Prelude.{ℕ, ◌+◌, ◌^◌, ◌%◌, ◌==◌, Bool, true, ◌&&◌, leb, nat_lt, List, length}
+use Rattle.std.specs.List.{list_all}
+use Rattle.cl_types.specs.declared.call.AtomicOp.{AtomicOp}
+use Rattle.cl_types.specs.declared.call.AtomicOp.TheVariants.{Add, Cas}
+use Rattle.cl_types.specs.declared.numbers.Addr.{Addr}
+use Rattle.cl_types.specs.declared.request.Request.{Request}
+use Rattle.cl_types.specs.declared.request.Request.TheVariants as request
+use Rattle.cl_types.specs.declared.schedule.CallText.{CallText}
+use Rattle.cl_types.specs.declared.schedule.CallText.TheVariants as text
+use Rattle.cl_types.specs.declared.schedule.Event.{Event}
+use Rattle.cl_types.specs.declared.schedule.Event.TheVariants as event
+use Rattle.flat_model.specs.Pages.{page_of, offset_of}
+
+-- ---- of types
+abbrev pub are_bytes : List ℕ → Bool
+are_bytes bytes = list_all (λ b. nat_lt b 256) bytes
+
+abbrev pub is_word : ℕ → Bool
+is_word n = nat_lt n (2 ^ 64)
+
+abbrev pub has_words : AtomicOp → Bool
+has_words (Add n) = is_word n
+has_words (Cas expect put) = is_word expect && is_word put
+has_words other = true
+
+-- the numbers of a call's line are those of their types
+abbrev pub is_typed_call : CallText → Bool
+is_typed_call (text.Alloc pages perm) = nat_lt pages (2 ^ 32)
+is_typed_call (text.Free addr pages) = nat_lt addr.0 (2 ^ 32) && nat_lt pages (2 ^ 32)
+is_typed_call (text.Read addr len) = nat_lt addr.0 (2 ^ 32) && nat_lt len (2 ^ 32)
+is_typed_call (text.Write addr bytes) = nat_lt addr.0 (2 ^ 32) && are_bytes bytes.bytes
+is_typed_call (text.Atomic addr op) = nat_lt addr.0 (2 ^ 32) && has_words op
+is_typed_call (text.Offload number op out bytes) = nat_lt number 256 && nat_lt op 256 && nat_lt out (2 ^ 32) && are_bytes bytes.bytes
+is_typed_call text.Fence = true
+
+-- The premise of the laws of the account: the calls of a schedule have numbers of their types. What is read from a text
+-- has them.
+abbrev pub is_typed : Event → Bool
+is_typed (event.Call client call) = is_typed_call call
+is_typed other = true
+
+-- ---- of requests
+abbrev pub is_good_address : Addr → Bool
+is_good_address addr = nat_lt addr.0 (2 ^ 28)
+
+-- n bytes, at least one and at most 1,024, stay within the page of the address
+abbrev pub is_piece : Addr → ℕ → Bool
+is_piece addr n = is_good_address addr && leb 1 n && leb n 1024 && leb (offset_of addr + n) 4096
+
+abbrev pub is_page_count : ℕ → Bool
+is_page_count n = leb 1 n && leb n 1024
+
+-- the request is one that a frame can carry
+abbrev pub is_in_range : Request → Bool
+is_in_range (request.Alloc n perm) = is_page_count n
+is_in_range (request.Free addr n) = is_good_address addr && (offset_of addr == 0) && is_page_count n && leb (page_of addr + n) 65536
+is_in_range (request.Read addr n) = is_piece addr n
+is_in_range (request.Write addr bytes) = is_piece addr (length bytes) && are_bytes bytes
+is_in_range (request.Atomic addr op) = is_good_address addr && (addr.0 % 8 == 0) && has_words op
+is_in_range (request.Offload number op out bytes) =
+    nat_lt number 256 && nat_lt op 256 && leb out 1024 && leb (length bytes) 1024 && are_bytes bytes
