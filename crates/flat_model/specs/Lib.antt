@@ -5,3 +5,4 @@ pub mod Opening
 pub mod Step
 pub mod Ranges
 pub mod Run
+pub mod Rows

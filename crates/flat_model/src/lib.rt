@@ -9,3 +9,7 @@
 
 pub mod flat;
 pub mod open_fault;
+mod check;
+mod page;
+mod rows;
+mod store;

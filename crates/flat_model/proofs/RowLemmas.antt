@@ -1,0 +1,47 @@
+-- Looking up a place among entries, by position.
+use Rattle.std.proofs.Common.{◌≡◌, ℕ, zero, suc, ◌+◌, ◌<◌, ◌≤◌, Bool, true, false, cond, List, [], ◌∷◌, length, get_or, refl, sym, ap, subst, ◌∙◌, Option, Some, None, option_map, slice_get, arith, ◌==◌, ◌&&◌}
+use Rattle.std.proofs.lemmas.Bool.Decides.{nat_tests}
+use Rattle.std.proofs.lemmas.List.Quantifiers.{position-Some}
+use Rattle.std.specs.List.{position}
+use Rattle.std.specs.FinMap.Entries.{find}
+use Rattle.std.specs.Ordering.{eq_by_cmp}
+use Rattle.cl_types.specs.Places.{Place, place_cmp}
+use Rattle.flat_model.specs.Rows.{is_at}
+
+-- the order ties exactly where the numbers are the same
+pub same_place : (place other : Place) → eq_by_cmp place_cmp place other ≡ (other.0 == place.0 && other.1 == place.1)
+same_place place other = grind (arith, nat_tests)
+
+-- where the test fails everywhere there is no position
+pub position_next : {X : Type 0} (p : X → Bool) (x : X) (xs : List X) → p x ≡ false → position p (x ∷ xs) ≡ None → position p xs ≡ None
+position_next p x xs fails none = grind (arith, nat_tests)
+
+pub position_not_first : {X : Type 0} (p : X → Bool) (x : X) (xs : List X) → p x ≡ true → position p (x ∷ xs) ≡ Some 0
+position_not_first p x xs passes = grind (arith, nat_tests)
+
+module _ {V : Type 0} (place : Place) where
+  find_first : (entry : Place × V) (entries : List (Place × V)) → is_at place entry ≡ true → find place_cmp place (entry ∷ entries) ≡ Some entry.1
+  find_first entry entries here = ap (λ t. cond t (Some entry.1) (find place_cmp place entries)) (same_place place entry.0 ∙ here)
+
+  find_later : (entry : Place × V) (entries : List (Place × V)) → is_at place entry ≡ false → find place_cmp place (entry ∷ entries) ≡ find place_cmp place entries
+  find_later entry entries here = ap (λ t. cond t (Some entry.1) (find place_cmp place entries)) (same_place place entry.0 ∙ here)
+
+  -- the first entry that is of the place has its value
+  pub found : (entries : List (Place × V)) (i : ℕ) (d : Place × V) → i < length entries → is_at place (get_or entries i d) ≡ true
+      → ((k : ℕ) → k < i → is_at place (get_or entries k d) ≡ false) → find place_cmp place entries ≡ Some (get_or entries i d).1
+  found [] i d within here before = absurd (omega (arith, within))
+  found (e ∷ es) zero d within here before = find_first e es here
+  found (e ∷ es) (suc i) d within here before =
+      find_later e es (before 0 (omega arith)) ∙ found es i d (omega (arith, within)) here (λ k below. before (suc k) (omega (arith, below)))
+
+  pub found_at_position : (entries : List (Place × V)) (i : ℕ) (d : Place × V) → position (is_at place) entries ≡ Some i → find place_cmp place entries ≡ Some (get_or entries i d).1
+  found_at_position entries i d at = let first = position-Some (is_at place) entries i d at in found entries i d first.0 first.1 first.2
+
+  missing : (t : Bool) (entry : Place × V) (entries : List (Place × V)) → is_at place entry ≡ t → position (is_at place) (entry ∷ entries) ≡ None
+      → (position (is_at place) entries ≡ None → find place_cmp place entries ≡ None) → find place_cmp place (entry ∷ entries) ≡ None
+  missing true entry entries here none rest = cc (position_not_first (is_at place) entry entries here, none)
+  missing false entry entries here none rest = find_later entry entries here ∙ rest (position_next (is_at place) entry entries here none)
+
+  pub not_found : (entries : List (Place × V)) → position (is_at place) entries ≡ None → find place_cmp place entries ≡ None
+  not_found [] none = refl
+  not_found (e ∷ es) none = missing (is_at place e) e es refl none (not_found es)
