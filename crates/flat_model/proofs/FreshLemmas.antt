@@ -3,6 +3,8 @@ use Rattle.std.proofs.Common.{◌≡◌, ℕ, zero, suc, ◌+◌, ◌≤◌, Lis
 use Rattle.std.specs.List.{list_all}
 use Rattle.std.proofs.lemmas.Bool.Decides.{nat_tests}
 use Rattle.std.proofs.lemmas.List.{length-replicate}
+use Rattle.std.specs.Int.{from_le_bytes, w64}
+use Rattle.flat_model.specs.Pages.{word_at}
 use Rattle.cl_types.specs.Bytes.{zeros, bytes_at, fresh_bytes}
 
 piece : (m at n : ℕ) → at + n ≤ m → bytes_at at n (replicate m 0) ≡ replicate n 0
@@ -43,3 +45,10 @@ are_all_zero xs n is = ap (list_all (λ b. b == 0)) is ∙ all_of_zeros n
 
 pub length_zeros : (xs : List ℕ) (n : ℕ) → xs ≡ zeros n → length xs ≡ n
 length_zeros xs n is = ap length is ∙ length-replicate n 0
+
+zero_word : (bytes : List ℕ) → bytes ≡ zeros 8 → from_le_bytes w64 bytes ≡ 0
+zero_word bytes is = ap (from_le_bytes w64) is
+
+-- a word of a fresh page is 0
+pub fresh_word : (at : ℕ) → at + 8 ≤ 4096 → word_at at fresh_bytes ≡ 0
+fresh_word at within = zero_word _ (fresh_piece at 8 within)

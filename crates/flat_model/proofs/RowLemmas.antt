@@ -2,6 +2,7 @@
 use Rattle.std.proofs.Common.{◌≡◌, ℕ, zero, suc, ◌+◌, ◌<◌, ◌≤◌, Bool, true, false, cond, List, [], ◌∷◌, length, get_or, refl, sym, ap, subst, ◌∙◌, Option, Some, None, option_map, slice_get, arith, ◌==◌, ◌&&◌}
 use Rattle.std.proofs.lemmas.Bool.Decides.{nat_tests}
 use Rattle.std.proofs.lemmas.List.Quantifiers.{position-Some}
+use Rattle.std.proofs.lemmas.Option.{get_or_from_slice_get, slice_get_read}
 use Rattle.std.specs.List.{position}
 use Rattle.std.specs.FinMap.Entries.{find}
 use Rattle.std.specs.Ordering.{eq_by_cmp}
@@ -45,3 +46,33 @@ module _ {V : Type 0} (place : Place) where
   pub not_found : (entries : List (Place × V)) → position (is_at place) entries ≡ None → find place_cmp place entries ≡ None
   not_found [] none = refl
   not_found (e ∷ es) none = missing (is_at place e) e es refl none (not_found es)
+
+  entry_is : (entry : Place × V) → is_at place entry ≡ true → entry ≡ (place, entry.1)
+  entry_is entry here =
+      let space : entry.0.0 ≡ place.0 = grind (arith, nat_tests) in
+      let number : entry.0.1 ≡ place.1 = grind (arith, nat_tests) in
+      λ i. ((space i, number i), entry.1)
+
+  at_entry : (entries : List (Place × V)) (i : ℕ) (v : V) (entry : Option (Place × V)) → slice_get entries i ≡ entry → position (is_at place) entries ≡ Some i
+      → option_map (λ e. e.1) entry ≡ Some v → (slice_get entries i ≡ Some (place, v)) × (find place_cmp place entries ≡ Some v)
+  at_entry entries i v None there at value = absurd cc
+  at_entry entries i v (Some entry) there at value =
+      let same : entry.1 ≡ v = cc value in
+      let read : get_or entries i entry ≡ entry = get_or_from_slice_get entries i entry entry there in
+      let here : is_at place entry ≡ true = subst (λ e. is_at place e ≡ true) read (position-Some (is_at place) entries i entry at).1 in
+      (
+        there ∙ ap (λ (e : Place × V). Some e) (entry_is entry here ∙ ap (λ (w : V). (place, w)) same),
+        found_at_position entries i entry at ∙ ap (λ (e : Place × V). Some e.1) read ∙ ap (λ (w : V). Some w) same,
+      )
+
+  -- the entry at the position of a place is that of the place
+  pub at_position : (entries : List (Place × V)) (i : ℕ) (v : V) → position (is_at place) entries ≡ Some i → option_map (λ e. e.1) (slice_get entries i) ≡ Some v
+      → (slice_get entries i ≡ Some (place, v)) × (find place_cmp place entries ≡ Some v)
+  at_position entries i v at value = at_entry entries i v (slice_get entries i) refl at value
+
+-- a value that was read at an index
+pub read_value : {V : Type 0} (rows entries : List (Place × V)) (i : ℕ) (entry : Place × V) → rows ≡ entries → i < length entries → entry ≡ get_or rows i entry
+    → option_map (λ e. e.1) (slice_get entries i) ≡ Some entry.1
+read_value {V} rows entries i entry same within is =
+    ap (λ (o : Option (Place × V)). option_map (λ e. e.1) o)
+    (ap (λ (es : List (Place × V)). slice_get es i) (sym same) ∙ slice_get_read rows (length entries) i entry (ap length (sym same)) within is)

@@ -1,12 +1,26 @@
 -- What the plain lists of a flat state stand for.
-use Rattle.std.specs.Prelude.{ℕ, ◌==◌, Bool, ◌&&◌, List, IsTrue}
-use Rattle.std.specs.FinMap.Entries.{is_sorted}
+use Rattle.std.specs.Prelude.{ℕ, ◌≡◌, ◌==◌, ◌↔◌, Bool, ◌&&◌, List, Option, Some, None, Result, Ok, Err, slice_get, if◌then◌else◌, IsTrue}
+use Rattle.std.specs.FinMap.Entries.{is_sorted, put}
 use Rattle.cl_types.specs.Places.{Place, place_cmp, is_bucket_count}
-use Rattle.flat_model.specs.State.{Page}
+use Rattle.cl_types.specs.declared.call.Perm.{Perm}
+use Rattle.flat_model.specs.declared.need.Need.{Need}
+use Rattle.flat_model.specs.declared.need.Need.TheVariants.{Write, Change}
+use Rattle.cl_types.specs.declared.numbers.Addr.{Addr}
+use Rattle.cl_types.specs.declared.reply.Refusal.{Refusal}
+use Rattle.cl_types.specs.declared.reply.Reply.{Reply}
+use Rattle.flat_model.specs.Pages.{page_of}
+use Rattle.flat_model.specs.Step.{Outcome, may_write, may_change, on_bytes, refused}
+use Rattle.flat_model.specs.State.{FlatState, Page, bytes_of}
+use Rattle.cl_types.specs.Bytes.{with_bytes}
 
 -- the entry is that of this place
 abbrev pub is_at : {V : Type 0} → Place → Place × V → Bool
 is_at place entry = entry.0.0 == place.0 && entry.0.1 == place.1
+
+-- the permission is enough for what is to be done
+abbrev pub allows : Need → Perm → Bool
+allows Write perm = may_write perm
+allows Change perm = may_change perm
 
 -- what holds of the lists at every moment
 pub record AreInOrder (pages : List (Place × Page)) (ranges : List (Place × ℕ)) (buckets : ℕ) : Type 0 where
@@ -14,3 +28,27 @@ pub record AreInOrder (pages : List (Place × Page)) (ranges : List (Place × �
   pub allocated : IsTrue (is_sorted place_cmp ranges)
   -- so each page has a home
   pub homes : IsTrue (is_bucket_count buckets)
+
+-- the page with bytes put in at a place
+abbrev pub with_put : ℕ → List ℕ → Page → Page
+with_put at bytes page = record page { bytes = Some (with_bytes at bytes (bytes_of page)) }
+
+-- What looking for the page of an address gives, that is to get bytes: why it gets none, or the position of its entry.
+abbrev pub Opens : FlatState → ℕ → Addr → (Perm → Bool) → Result ℕ Refusal → Type 0
+Opens s pid addr may (Err refusal) = (go : Page → Outcome) → on_bytes s pid addr may go ≡ refused s refusal
+Opens s pid addr may (Ok i) =
+    (page : Page) × (slice_get s.map i ≡ Some ((pid, page_of addr), page)) × ((go : Page → Outcome) → on_bytes s pid addr may go ≡ go page)
+
+-- the pages with one changed
+abbrev pub with_changed : (Page → Page) → Option (Place × Page) → List (Place × Page) → List (Place × Page)
+with_changed change None pages = pages
+with_changed change (Some entry) pages = put place_cmp entry.0 (change entry.1) pages
+
+-- bytes put into the page of the i-th entry
+abbrev pub put_bytes : FlatState → ℕ → ℕ → List ℕ → FlatState
+put_bytes s i at bytes = record s { map = with_changed (with_put at bytes) (slice_get s.map i) s.map }
+
+-- whether the machine gives this reply, and the state after it, which is the old one where it doesn't
+pub record Checks (old : FlatState) (outcome : Outcome) (reply : Reply) (may : Bool) (new : FlatState) : Type 0 where
+  pub allowed : IsTrue may ↔ (reply ≡ outcome.reply)
+  pub after : new ≡ (if may then outcome.state else old)

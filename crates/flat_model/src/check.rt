@@ -1,16 +1,22 @@
 //! Whether a request and its reply are a step of the flat machine.
 
-ghost use Rattle.std.specs.Prelude.{◌≡◌, ◌+◌, ◌≤◌, ◌<◌, ◌^◌, ◌↔◌, IsTrue};
+ghost use Rattle.std.specs.Prelude.{◌≡◌, ◌+◌, ◌%◌, ◌≤◌, ◌<◌, ◌^◌, ◌↔◌, IfOk, OnErr, IsTrue, length};
 ghost use Rattle.cl_types.specs.Bytes.{bytes_at};
 ghost use Rattle.flat_model.specs.Pages.{offset_of};
 ghost use Rattle.flat_model.specs.Ranges.{is_in_range};
 ghost use Rattle.flat_model.specs.State.{bytes_of};
-ghost use Rattle.flat_model.specs.Step.{may_read, read};
+ghost use Rattle.flat_model.specs.Step.{atomic, free, read, write};
+ghost use Rattle.flat_model.specs.Pages.{word_after};
+ghost use Rattle.flat_model.specs.Rows.{Checks};
 
-use crate::flat::{Flat, page_of_addr};
+use crate::flat::Flat;
+use crate::need::may_be_read;
 use crate::page::MappedPage;
-use cl_types::call::Perm;
+use cl_types::call::AtomicOp;
+use cl_types::items::NoMemory;
 use cl_types::numbers::Addr;
+use std::alloc::Global;
+use crate::need::Need;
 use cl_types::reply::{Refusal, Reply};
 
 fn is_refusal(reply: &Reply, refusal: Refusal) -> bool
@@ -19,15 +25,6 @@ fn is_refusal(reply: &Reply, refusal: Refusal) -> bool
     match reply {
         Reply::Refused(given) => *given == refusal,
         _ => false,
-    }
-}
-
-fn may_be_read(perm: Perm) -> bool
-    ensures { result ≡ may_read perm }
-{
-    match perm {
-        Perm::ReadOnly | Perm::ReadWrite => true,
-        Perm::WriteOnly => false,
     }
 }
 
@@ -48,7 +45,7 @@ fn replies_to_read(flat: &Flat, pid: u16, addr: Addr, len: u16, reply: &Reply) -
     requires within { offset_of addr + len ≤ 4096 }
     ensures { IsTrue result ↔ (reply.now ≡ (read flat.now pid addr len).reply) }
 {
-    match page_of_addr(flat, pid, addr) {
+    match flat.page(pid, addr) {
         None => is_refusal(reply, Refusal::NoMapping),
         Some(page) => {
             if !may_be_read(page.perm()) {
@@ -57,4 +54,112 @@ fn replies_to_read(flat: &Flat, pid: u16, addr: Addr, len: u16, reply: &Reply) -
             shows(page, addr, len, reply)
         }
     }
+}
+
+fn is_nothing(reply: &Reply) -> bool
+    ensures { IsTrue result ↔ (reply.now ≡ Reply.Nothing) }
+{
+    matches!(reply, Reply::Nothing)
+}
+
+fn is_word(reply: &Reply, word: u64) -> bool
+    ensures { IsTrue result ↔ (reply.now ≡ Reply.Word word) }
+{
+    match reply {
+        Reply::Word(given) => *given == word,
+        _ => false,
+    }
+}
+
+// The word that an atomic leaves in place of this one.
+fn next_word(op: AtomicOp, word: u64) -> u64
+    ensures { result ≡ word_after op word }
+{
+    match op {
+        AtomicOp::Lock => {
+            if word == 0 {
+                1
+            } else {
+                word
+            }
+        }
+        AtomicOp::Unlock => 0,
+        AtomicOp::Add { n } => word.wrapping_add(n),
+        AtomicOp::Cas { expect, put } => {
+            if word == expect {
+                put
+            } else {
+                word
+            }
+        }
+    }
+}
+
+// Whether the machine gives this reply to a write, and the step itself if it does.
+fn check_write(
+    alloc: Global,
+    flat: &mut Flat,
+    pid: u16,
+    addr: Addr,
+    bytes: &[u8],
+    reply: &Reply,
+) -> Result<bool, NoMemory>
+    requires good { addr.0 < 2 ^ 28 }
+    requires within { offset_of addr + length bytes.now ≤ 4096 }
+    ensures checks { IfOk result (λ may. Checks flat.old (write flat.old pid addr bytes.now) reply.now may flat.new) }
+    ensures unchanged { OnErr result (flat.new ≡ flat.old) }
+{
+    match flat.open(pid, addr, Need::Write) {
+        Err(refusal) => Ok(is_refusal(reply, refusal)),
+        Ok(i) => {
+            if !is_nothing(reply) {
+                return Ok(false);
+            }
+            flat.put(alloc, i, (addr.0 % 4096) as usize, bytes)?;
+            Ok(true)
+        }
+    }
+}
+
+// The same of an atomic.
+fn check_atomic(
+    alloc: Global,
+    flat: &mut Flat,
+    pid: u16,
+    addr: Addr,
+    op: AtomicOp,
+    reply: &Reply,
+) -> Result<bool, NoMemory>
+    requires good { addr.0 < 2 ^ 28 }
+    requires within { offset_of addr + 8 ≤ 4096 }
+    ensures checks { IfOk result (λ may. Checks flat.old (atomic flat.old pid addr op) reply.now may flat.new) }
+    ensures unchanged { OnErr result (flat.new ≡ flat.old) }
+{
+    match flat.open(pid, addr, Need::Change) {
+        Err(refusal) => Ok(is_refusal(reply, refusal)),
+        Ok(i) => {
+            let at = (addr.0 % 4096) as usize;
+            let word = flat.nth(i).word(at);
+            if !is_word(reply, word) {
+                return Ok(false);
+            }
+            flat.put(alloc, i, at, &next_word(op, word).to_le_bytes())?;
+            Ok(true)
+        }
+    }
+}
+
+// The same of a Free.
+fn check_free(flat: &mut Flat, pid: u16, addr: Addr, pages: u16, reply: &Reply) -> bool
+    requires { addr.0 < 2 ^ 28 }
+    ensures { Checks flat.old (free flat.old pid addr pages) reply.now result flat.new }
+{
+    if !flat.is_range(pid, addr, pages) {
+        return is_refusal(reply, Refusal::NoMapping);
+    }
+    if !is_nothing(reply) {
+        return false;
+    }
+    flat.unmap(pid, addr, pages);
+    true
 }

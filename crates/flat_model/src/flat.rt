@@ -1,27 +1,35 @@
 //! The flat machine as plain lists of pages, ranges and objects, for the checking of histories.
 
-ghost use Rattle.std.specs.Prelude.{◌≡◌, ◌<◌, ◌^◌};
+ghost use Rattle.std.specs.Prelude.{◌≡◌, ◌+◌, ◌<◌, ◌≤◌, ◌^◌, OnOk, OnErr, Some, IsTrue, count_by, is_some, leb, length, option_map, position, slice_get};
 ghost use Rattle.std.specs.Option.{option_copied};
 ghost use Rattle.flat_model.specs.Pages.{page_of};
-ghost use Rattle.flat_model.specs.State.{page_at};
+ghost use Rattle.flat_model.specs.Rows.{Opens, allows, is_at, put_bytes, with_changed, with_put};
+ghost use Rattle.std.specs.FinMap.Entries.{is_sorted};
+ghost use Rattle.cl_types.specs.Places.{place_cmp};
+ghost use Rattle.flat_model.specs.State.{page_at, used};
+ghost use Rattle.flat_model.specs.Step.{is_out_of_pages, is_range, unmapped};
 
+use crate::need::{Need, is_allowed};
 use crate::page::MappedPage;
-use crate::rows::{Place, value_of};
+use crate::rows::{Place, position_of, take_out, take_out_pages, value_of};
 use crate::store::KvStore;
+use cl_types::items::NoMemory;
 use cl_types::numbers::Addr;
+use cl_types::reply::Refusal;
+use std::alloc::Global;
 use std::marker::Model;
 
 /// The flat machine. A clause sees it as its `FlatState`.
 #[derive(Drop)]
 pub struct Flat {
     /// In the order of their places.
-    pub(crate) map: Vec<(Place, MappedPage)>,
+    map: Vec<(Place, MappedPage)>,
     /// How many pages each range has, by the place of its first page, in the order of the places.
-    pub(crate) ranges: Vec<(Place, u16)>,
-    pub(crate) objects: Vec<KvStore>,
-    pub(crate) held: Vec<Place>,
-    pub(crate) pages: u64,
-    pub(crate) buckets: u32,
+    ranges: Vec<(Place, u16)>,
+    objects: Vec<KvStore>,
+    held: Vec<Place>,
+    pages: u64,
+    buckets: u32,
 }
 
 impl Model for Flat {
@@ -36,10 +44,127 @@ impl Model for Flat {
     ghost invariant = { λ f. AreInOrder f.map.items f.ranges.items f.buckets };
 }
 
-/// The page of an address, where it is mapped for the process.
-pub fn page_of_addr(flat: &Flat, pid: u16, addr: Addr) -> Option<&MappedPage>
-    requires { addr.0 < 2 ^ 28 }
-    ensures { option_copied result ≡ page_at flat.now pid (page_of addr) }
+fn pages_with_bytes(map: &[(Place, MappedPage)]) -> usize
+    ensures { result ≡ count_by (λ entry. is_some entry.1.bytes) map.now }
 {
-    value_of(&flat.map, (pid, (addr.0 / 4096) as u16))
+    map.iter().filter(|entry| entry.1.has_bytes()).count()
+}
+
+impl Flat {
+    /// The page of an address, where it is mapped for the process.
+    pub(crate) fn page(&self, pid: u16, addr: Addr) -> Option<&MappedPage>
+        requires { addr.0 < 2 ^ 28 }
+        ensures { option_copied result ≡ page_at self.now pid (page_of addr) }
+    {
+        value_of(&self.map, (pid, (addr.0 / 4096) as u16))
+    }
+
+    // Whether no physical page is free.
+    fn is_full(&self) -> bool
+        ensures { result ≡ leb self.now.pages (used self.now) }
+    {
+        let with_bytes = pages_with_bytes(&self.map) as u64;
+        self.pages <= with_bytes || self.pages - with_bytes <= self.held.len() as u64
+    }
+
+    // Whether the page would need a physical page, and none is free.
+    fn is_out_of(&self, page: &MappedPage) -> bool
+        ensures { result ≡ is_out_of_pages self.now page.now }
+    {
+        !page.has_bytes() && self.is_full()
+    }
+
+    fn position(&self, pid: u16, addr: Addr) -> Option<usize>
+        requires { addr.0 < 2 ^ 28 }
+        ensures { result ≡ position (is_at (pid, page_of addr)) self.now.map }
+    {
+        position_of(&self.map, (pid, (addr.0 / 4096) as u16))
+    }
+
+    /// The page of an entry.
+    pub(crate) fn nth(&self, i: usize) -> &MappedPage
+        requires { i < length self.now.map }
+        ensures { option_map (λ entry. entry.1) (slice_get self.now.map i) ≡ Some result.now }
+    {
+        &self.map[i].1
+    }
+
+    /// Where the page stands that is to get bytes, or why it gets none.
+    pub(crate) fn open(&self, pid: u16, addr: Addr, need: Need) -> Result<usize, Refusal>
+        requires { addr.0 < 2 ^ 28 }
+        ensures { Opens self.now pid addr (allows need) result }
+    {
+        match self.position(pid, addr) {
+            None => Err(Refusal::NoMapping),
+            Some(i) => {
+                let page = self.nth(i);
+                if !is_allowed(need, page.perm()) {
+                    return Err(Refusal::NoPermission);
+                }
+                if self.is_out_of(page) {
+                    return Err(Refusal::NoPage);
+                }
+                Ok(i)
+            }
+        }
+    }
+
+    /// Puts bytes into the page of an entry. Without memory all stays as it was.
+    pub(crate) fn put(
+        &mut self,
+        alloc: Global,
+        i: usize,
+        at: usize,
+        bytes: &[u8],
+    ) -> Result<(), NoMemory>
+        requires entry { i < length self.old.map }
+        requires within { at + length bytes.now ≤ 4096 }
+        ensures put { OnOk result (self.new ≡ put_bytes self.old i at bytes.now) }
+        ensures unchanged { OnErr result (self.new ≡ self.old) }
+    {
+        put_in_row(alloc, &mut self.map, i, at, bytes)?;
+        Ok(())
+    }
+}
+
+impl Flat {
+    /// Whether a range of exactly this start and this number of pages stands.
+    pub(crate) fn is_range(&self, pid: u16, addr: Addr, pages: u16) -> bool
+        requires { addr.0 < 2 ^ 28 }
+        ensures { result ≡ is_range self.now pid (page_of addr) pages }
+    {
+        match value_of(&self.ranges, (pid, (addr.0 / 4096) as u16)) {
+            None => false,
+            Some(n) => *n == pages,
+        }
+    }
+
+    /// Takes out the range and its pages.
+    pub(crate) fn unmap(&mut self, pid: u16, addr: Addr, pages: u16)
+        requires { addr.0 < 2 ^ 28 }
+        ensures { self.new ≡ unmapped self.old pid (page_of addr) pages }
+    {
+        let start = (addr.0 / 4096) as u16;
+        take_out_pages(&mut self.map, pid, start, pages);
+        take_out(&mut self.ranges, (pid, start));
+    }
+}
+
+fn put_in_row(
+    alloc: Global,
+    map: &mut Vec<(Place, MappedPage)>,
+    i: usize,
+    at: usize,
+    bytes: &[u8],
+) -> Result<(), NoMemory>
+    requires order { IsTrue (is_sorted place_cmp map.old.items) }
+    requires entry { i < length map.old.items }
+    requires within { at + length bytes.now ≤ 4096 }
+    ensures put { OnOk result (map.new.items ≡ with_changed (with_put at bytes.now) (slice_get map.old.items i) map.old.items) }
+    ensures order { IsTrue (is_sorted place_cmp map.new.items) }
+    ensures unchanged { OnErr result (map.new.items ≡ map.old.items) }
+{
+    let entry = &mut map[i];
+    entry.1.put(alloc, at, bytes)?;
+    Ok(())
 }

@@ -10,6 +10,7 @@
 pub mod flat;
 pub mod open_fault;
 mod check;
+mod need;
 mod page;
 mod rows;
 mod store;

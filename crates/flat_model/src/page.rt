@@ -1,8 +1,11 @@
 //! A mapped page. A clause sees it as the `Page` of a state.
 
-ghost use Rattle.std.specs.Prelude.{◌≡◌, ◌+◌, ◌≤◌, ◌==◌, ◌↔◌, IfOk, OnOk, OnErr, IsTrue, is_none, length};
+ghost use Rattle.std.specs.Prelude.{◌≡◌, ◌+◌, ◌≤◌, ◌==◌, ◌↔◌, IfOk, OnOk, OnErr, IsTrue, None, is_some, length};
 ghost use Rattle.std.specs.List.{list_all};
-ghost use Rattle.cl_types.specs.Bytes.{bytes_at, with_bytes, zeros};
+ghost use Rattle.cl_types.specs.Bytes.{bytes_at, fresh_bytes, with_bytes, zeros};
+ghost use Rattle.std.specs.Int.{from_le_bytes, w64};
+ghost use Rattle.flat_model.specs.Pages.{word_at};
+ghost use Rattle.flat_model.specs.Rows.{with_put};
 ghost use Rattle.flat_model.specs.State.{bytes_of};
 
 use cl_types::call::Perm;
@@ -56,11 +59,11 @@ impl MappedPage {
         self.perm
     }
 
-    /// Whether it has no bytes yet.
-    pub fn is_fresh(&self) -> bool
-        ensures { result ≡ is_none self.now.bytes }
+    /// Whether it has bytes.
+    pub fn has_bytes(&self) -> bool
+        ensures { result ≡ is_some self.now.bytes }
     {
-        self.bytes.is_none()
+        self.bytes.is_some()
     }
 
     /// Whether these are its `n` bytes from a place on.
@@ -74,4 +77,64 @@ impl MappedPage {
             Some(bytes) => shown == &bytes[at..at + n],
         }
     }
+
+    /// The word of 8 bytes from a place on.
+    #[tactic(auto, using(crate::proofs::FreshLemmas::fresh_word))]
+    pub fn word(&self, at: usize) -> u64
+        requires { at + 8 ≤ 4096 }
+        ensures { result ≡ word_at at (bytes_of self.now) }
+    {
+        match &self.bytes {
+            None => 0,
+            Some(bytes) => word_of(&bytes[at..at + 8]),
+        }
+    }
+
+    /// Puts bytes at a place. A fresh page has bytes from then on. Without memory it stays as it was.
+    pub fn put(&mut self, alloc: Global, at: usize, bytes: &[u8]) -> Result<(), NoMemory>
+        requires { at + length bytes.now ≤ 4096 }
+        ensures put { OnOk result (self.new ≡ with_put at bytes.now self.old) }
+        ensures unchanged { OnErr result (self.new ≡ self.old) }
+    {
+        match &mut self.bytes {
+            Some(old) => put_in(old, at, bytes),
+            None => {
+                let mut fresh = fresh_page(alloc)?;
+                put_in(&mut fresh, at, bytes);
+                self.bytes = Some(fresh);
+            }
+        }
+        Ok(())
+    }
+}
+
+fn word_of(bytes: &[u8]) -> u64
+    requires { length bytes.now ≡ 8 }
+    ensures { result ≡ from_le_bytes w64 bytes.now }
+{
+    u64::from_le_bytes([
+        bytes[0], bytes[1], bytes[2], bytes[3], bytes[4], bytes[5], bytes[6], bytes[7],
+    ])
+}
+
+fn so_many_zeros(alloc: Global, n: usize) -> Result<Vec<u8>, NoMemory>
+    ensures { IfOk result (λ bytes. bytes.items ≡ zeros n) }
+{
+    Ok(vec![in alloc; 0; n]?)
+}
+
+#[tactic(auto, using(crate::proofs::FreshLemmas::fresh_is_zeros, crate::proofs::FreshLemmas::length_fresh))]
+fn fresh_page(alloc: Global) -> Result<Vec<u8>, NoMemory>
+    ensures bytes { IfOk result (λ bytes. bytes.items ≡ fresh_bytes) }
+    ensures size { IfOk result (λ bytes. length bytes.items ≡ 4096) }
+{
+    so_many_zeros(alloc, 4096)
+}
+
+fn put_in(page: &mut Vec<u8>, at: usize, bytes: &[u8])
+    requires { at + length bytes.now ≤ length page.old.items }
+    ensures put { page.new.items ≡ with_bytes at bytes.now page.old.items }
+    ensures size { length page.new.items ≡ length page.old.items }
+{
+    page[at..at + bytes.len()].copy_from_slice(bytes);
 }

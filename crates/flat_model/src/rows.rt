@@ -1,8 +1,10 @@
 //! Lists of entries in the order of their places. A clause sees a place as the pair of its numbers.
 
-ghost use Rattle.std.specs.Prelude.{◌≡◌, ◌<◌, position, length, slice_get, slice_set};
+ghost use Rattle.std.specs.Prelude.{◌≡◌, IsTrue, not, position};
 ghost use Rattle.std.specs.Option.{option_copied};
-ghost use Rattle.std.specs.FinMap.Entries.{find};
+ghost use Rattle.std.specs.FinMap.Entries.{find, is_sorted, where_key};
+ghost use Rattle.std.specs.Ordering.{eq_by_cmp};
+ghost use Rattle.flat_model.specs.Step.{is_among};
 ghost use Rattle.cl_types.specs.Places.{place_cmp};
 ghost use Rattle.flat_model.specs.Rows.{is_at};
 
@@ -26,4 +28,33 @@ pub fn value_of<V>(entries: &[(Place, V)], place: Place) -> Option<&V>
         None => None,
         Some(i) => Some(&entries[i].1),
     }
+}
+
+fn is_same(place: Place, other: Place) -> bool
+    ensures { result ≡ eq_by_cmp place_cmp place other }
+{
+    place.0 == other.0 && place.1 == other.1
+}
+
+// Whether the place is one of these pages.
+fn is_one_of(pid: u16, start: u16, pages: u16, place: Place) -> bool
+    ensures { result ≡ is_among pid start pages place }
+{
+    place.0 == pid && start <= place.1 && u32::from(place.1) < u32::from(start) + u32::from(pages)
+}
+
+/// Takes out the entry of this place.
+pub fn take_out<V: Drop>(entries: &mut Vec<(Place, V)>, place: Place)
+    ensures kept { entries.new.items ≡ where_key place_cmp (λ other. not (eq_by_cmp place_cmp place other)) entries.old.items }
+    ensures order { IsTrue (is_sorted place_cmp entries.old.items) → IsTrue (is_sorted place_cmp entries.new.items) }
+{
+    entries.retain(|entry| !is_same(place, entry.0));
+}
+
+/// Takes out the entries of these pages of a process.
+pub fn take_out_pages<V: Drop>(entries: &mut Vec<(Place, V)>, pid: u16, start: u16, pages: u16)
+    ensures kept { entries.new.items ≡ where_key place_cmp (λ place. not (is_among pid start pages place)) entries.old.items }
+    ensures order { IsTrue (is_sorted place_cmp entries.old.items) → IsTrue (is_sorted place_cmp entries.new.items) }
+{
+    entries.retain(|entry| !is_one_of(pid, start, pages, entry.0));
 }
