@@ -1,6 +1,8 @@
 pub mod ChangeLemmas
 pub mod CheckLemmas
+pub mod FitLemmas
 pub mod FreshLemmas
+pub mod LeastLemmas
 pub mod OpenLemmas
 pub mod PlaceLemmas
 pub mod PutLemmas

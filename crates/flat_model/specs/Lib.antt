@@ -6,3 +6,4 @@ pub mod Step
 pub mod Ranges
 pub mod Run
 pub mod Rows
+pub mod LeastStart

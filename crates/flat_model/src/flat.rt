@@ -9,6 +9,8 @@ ghost use Rattle.cl_types.specs.Places.{place_cmp};
 ghost use Rattle.flat_model.specs.State.{page_at, used};
 ghost use Rattle.flat_model.specs.Step.{is_out_of_pages, is_range, unmapped};
 
+mod fit;
+
 use crate::need::{Need, is_allowed};
 use crate::page::MappedPage;
 use crate::rows::{Place, position_of, take_out, take_out_pages, value_of};

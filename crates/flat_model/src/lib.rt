@@ -10,6 +10,7 @@
 pub mod flat;
 pub mod open_fault;
 mod check;
+pub mod laws;
 mod need;
 mod page;
 mod rows;

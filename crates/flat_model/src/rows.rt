@@ -30,7 +30,8 @@ pub fn value_of<V>(entries: &[(Place, V)], place: Place) -> Option<&V>
     }
 }
 
-fn is_same(place: Place, other: Place) -> bool
+/// Whether two places are one.
+pub fn is_same(place: Place, other: Place) -> bool
     ensures { result ≡ eq_by_cmp place_cmp place other }
 {
     place.0 == other.0 && place.1 == other.1

@@ -1,0 +1,173 @@
+//! Where a range fits.
+
+ghost use Rattle.std.specs.Prelude.{◌≡◌, ◌+◌, ◌==◌, ◌<◌, ◌≤◌, ◌^◌, IsTrue, if◌then◌else◌, count_by, leb, map, not, option_map};
+ghost use Rattle.std.specs.List.{list_all, list_any, range_with_len};
+ghost use Rattle.std.specs.Ordering.{eq_by_cmp};
+ghost use Rattle.cl_types.specs.Places.{home_of, homes_at, is_bucket_count, place_cmp};
+ghost use Rattle.flat_model.specs.State.{fits, is_mapped, least, load, places, places_of};
+
+use crate::flat::Flat;
+use crate::page::MappedPage;
+use crate::rows::{Place, is_same};
+use cl_types::numbers::{Space16, Vpn};
+use cl_types::page::home;
+
+fn is_key(map: &[(Place, MappedPage)], place: Place) -> bool
+    ensures { result ≡ list_any (λ entry. eq_by_cmp place_cmp place entry.0) map.now }
+{
+    map.iter().any(|entry| is_same(place, entry.0))
+}
+
+fn is_there(held: &[Place], place: Place) -> bool
+    ensures { result ≡ list_any (eq_by_cmp place_cmp place) held.now }
+{
+    held.iter().any(|other| is_same(place, *other))
+}
+
+fn home_at(buckets: u32, place: Place) -> u32
+    requires { IsTrue (is_bucket_count buckets) }
+    ensures { result ≡ home_of buckets place }
+{
+    home(Space16(place.0), Vpn(place.1), buckets)
+}
+
+fn keys_at(map: &[(Place, MappedPage)], buckets: u32, bucket: u32) -> usize
+    requires { IsTrue (is_bucket_count buckets) }
+    ensures { result ≡ count_by (λ entry. home_of buckets entry.0 == bucket) map.now }
+{
+    map.iter()
+        .filter(|entry| home_at(buckets, entry.0) == bucket)
+        .count()
+}
+
+fn places_at(held: &[Place], buckets: u32, bucket: u32) -> usize
+    requires { IsTrue (is_bucket_count buckets) }
+    ensures { result ≡ homes_at buckets bucket held.now }
+{
+    held.iter()
+        .filter(|place| home_at(buckets, **place) == bucket)
+        .count()
+}
+
+// 1 for a page of this home, and 0 for another.
+fn one_at(buckets: u32, bucket: u32, place: Place) -> usize
+    requires { IsTrue (is_bucket_count buckets) }
+    ensures value { result ≡ (if home_of buckets place == bucket then 1 else 0) }
+    ensures small { result ≤ 1 }
+{
+    if home_at(buckets, place) == bucket { 1 } else { 0 }
+}
+
+// How many of these pages of a process have this home.
+#[tactic(auto, using(crate::proofs::FitLemmas::homes_next))]
+fn pages_at(buckets: u32, bucket: u32, pid: u16, start: u16, n: u16) -> usize
+    requires count { IsTrue (is_bucket_count buckets) }
+    requires within { start + n ≤ 65536 }
+    ensures { result ≡ homes_at buckets bucket (places_of pid start n) }
+{
+    let mut found = 0;
+    for i in 0..n {
+        found += one_at(buckets, bucket, (pid, start + i));
+    }
+    found
+}
+
+fn is_up_to_four(a: usize, b: usize, c: usize) -> bool
+    ensures { result ≡ leb (a + b + c) 4 }
+{
+    a <= 4 && b <= 4 && c <= 4 && a + b + c <= 4
+}
+
+impl Flat {
+    fn is_mapped(&self, place: Place) -> bool
+        ensures { result ≡ list_any (λ entry. eq_by_cmp place_cmp place entry.0) self.now.map }
+    {
+        is_key(&self.map, place)
+    }
+
+    fn is_held(&self, place: Place) -> bool
+        ensures { result ≡ list_any (eq_by_cmp place_cmp place) self.now.held }
+    {
+        is_there(&self.held, place)
+    }
+
+    // Whether the page is mapped, or an offload's.
+    #[tactic(auto, using(crate::proofs::FitLemmas::mapped_either))]
+    fn holds(&self, place: Place) -> bool
+        ensures { result ≡ is_mapped (places self.now) place }
+    {
+        self.is_mapped(place) || self.is_held(place)
+    }
+
+    fn mapped_at(&self, bucket: u32) -> usize
+        ensures { result ≡ count_by (λ entry. home_of self.now.buckets entry.0 == bucket) self.now.map }
+    {
+        keys_at(&self.map, self.buckets, bucket)
+    }
+
+    fn held_at(&self, bucket: u32) -> usize
+        ensures { result ≡ homes_at self.now.buckets bucket self.now.held }
+    {
+        places_at(&self.held, self.buckets, bucket)
+    }
+
+    // Whether the bucket has room for these pages of a process too.
+    #[tactic(auto, using(crate::proofs::FitLemmas::load_is))]
+    fn has_room(&self, bucket: u32, pid: u16, start: u16, n: u16) -> bool
+        requires { start + n ≤ 65536 }
+        ensures { result ≡ leb (load self.now bucket + homes_at self.now.buckets bucket (places_of pid start n)) 4 }
+    {
+        let more = pages_at(self.buckets, bucket, pid, start, n);
+        is_up_to_four(self.mapped_at(bucket), self.held_at(bucket), more)
+    }
+
+    fn are_free(&self, pid: u16, start: u16, n: u16) -> bool
+        requires { start + n ≤ 65536 }
+        ensures { result ≡ list_all (λ place. not (is_mapped (places self.now) place)) (places_of pid start n) }
+    {
+        for i in 0..n {
+            if self.holds((pid, start + i)) {
+                return false;
+            }
+        }
+        true
+    }
+
+    fn have_room(&self, pid: u16, start: u16, n: u16) -> bool
+        requires { start + n ≤ 65536 }
+        ensures { result ≡ list_all (λ bucket. leb (load self.now bucket + homes_at self.now.buckets bucket (places_of pid start n)) 4) (range_with_len 0 self.now.buckets) }
+    {
+        let buckets = self.buckets;
+        for bucket in 0..buckets {
+            if !self.has_room(bucket, pid, start, n) {
+                return false;
+            }
+        }
+        true
+    }
+
+    /// Whether so many pages fit at this start.
+    pub(crate) fn fits(&self, pid: u16, start: u32, n: u16) -> bool
+        requires some { 1 ≤ n }
+        requires small { start < 2 ^ 31 }
+        ensures { result ≡ fits self.now.buckets (places self.now) pid start n }
+    {
+        if start < 1 || start + u32::from(n) > 65_536 {
+            return false;
+        }
+        self.are_free(pid, start as u16, n) && self.have_room(pid, start as u16, n)
+    }
+
+    /// The least start at which so many pages fit.
+    pub(crate) fn least_start(&self, pid: u16, n: u16) -> Option<u32>
+        requires { 1 ≤ n }
+        ensures { result ≡ least self.now.buckets (places self.now) pid n }
+    {
+        for start in 1..65_536u32 {
+            if self.fits(pid, start, n) {
+                return Some(start);
+            }
+        }
+        None
+    }
+}
