@@ -1,11 +1,12 @@
 -- What putting an entry does to a list in the order of its keys, by position.
-use Rattle.std.proofs.Common.{◌≡◌, ℕ, zero, suc, ◌+◌, ◌<◌, ◌≤◌, T, Bool, true, false, ◌&&◌, List, [], ◌∷◌, length, get_or, refl, sym, ap, subst, ◌∙◌, arith}
+use Rattle.std.proofs.Common.{not, cond, Option, Some, None, ◌≡◌, ℕ, zero, suc, ◌+◌, ◌<◌, ◌≤◌, T, Bool, true, false, ◌&&◌, List, [], ◌∷◌, length, get_or, refl, sym, ap, subst, ◌∙◌, arith}
 use Rattle.std.proofs.Math.ListN.{set}
 use Rattle.std.specs.declared.cmp.Ordering.{Ordering}
 use Rattle.std.specs.declared.cmp.Ordering.TheVariants.{Less, Equal, Greater}
-use Rattle.std.specs.Ordering.{is_lt, ordering_reverse}
+use Rattle.std.specs.Ordering.{is_lt, is_eq, ordering_reverse}
+use Rattle.std.specs.List.{insert, position_or_len}
 use Rattle.std.specs.Cmp.{IsTotalOrder, tied_itself}
-use Rattle.std.specs.FinMap.Entries.{put, where_key, is_sorted, is_sorted-where_key, below_all, by_order}
+use Rattle.std.specs.FinMap.Entries.{find, put, where_key, is_sorted, is_sorted-put, is_sorted-where_key, below_all, by_order}
 
 pub T_of : (b : Bool) → b ≡ true → T b
 T_of true h = tt
@@ -51,6 +52,32 @@ module _ {K X : Type 0} (R : K → K → Ordering) (total : IsTotalOrder R) wher
   put_at k v (e ∷ es) (suc i) d sorted within same =
       put_greater k v e es (subst (λ (key : K). R e.0 key ≡ Less) same (below_at e.0 es i d (head_of _ _ sorted) (omega (arith, within))))
       ∙ ap (λ rest. e ∷ rest) (put_at k v es i d (tail_of _ _ sorted) (omega (arith, within)) same)
+
+  -- where the first entry behind a key stands
+  abbrev pub behind : K → List (K × X) → ℕ
+  behind k entries = position_or_len (λ e. is_lt (R k e.0)) entries
+
+  insert_step : (k : K) (v : X) (e : K × X) (entries : List (K × X)) (order : Ordering) → R k e.0 ≡ order → find R k (e ∷ entries) ≡ None
+      → (find R k entries ≡ None → insert entries (behind k entries) (k, v) ≡ put R k v entries) → insert (e ∷ entries) (behind k (e ∷ entries)) (k, v) ≡ put R k v (e ∷ entries)
+  insert_step k v e entries Less is none rest =
+      let here : behind k (e ∷ entries) ≡ 0 = ap (λ o. cond (not (is_lt o)) (1 + behind k entries) 0) is in
+      ap (λ i. insert (e ∷ entries) i (k, v)) here ∙ sym (ap (λ o. by_order o ((k, v) ∷ e ∷ entries) ((e.0, v) ∷ entries) (e ∷ put R k v entries)) is)
+  insert_step k v e entries Equal is none rest =
+      let found : find R k (e ∷ entries) ≡ Some e.1 = ap (λ o. cond (is_eq o) (Some e.1) (find R k entries)) is in
+      absurd (cc (found, none))
+  insert_step k v e entries Greater is none rest =
+      let later : behind k (e ∷ entries) ≡ suc (behind k entries) = ap (λ o. cond (not (is_lt o)) (1 + behind k entries) 0) is ∙ omega arith in
+      let absent : find R k entries ≡ None = sym (ap (λ o. cond (is_eq o) (Some e.1) (find R k entries)) is) ∙ none in
+      ap (λ i. insert (e ∷ entries) i (k, v)) later ∙ ap (λ es. e ∷ es) (rest absent)
+      ∙ sym (ap (λ o. by_order o ((k, v) ∷ e ∷ entries) ((e.0, v) ∷ entries) (e ∷ put R k v entries)) is)
+
+  -- a new entry is put in front of the first behind it
+  pub insert_is_put : (k : K) (v : X) (entries : List (K × X)) → find R k entries ≡ None → insert entries (behind k entries) (k, v) ≡ put R k v entries
+  insert_is_put k v [] none = refl
+  insert_is_put k v (e ∷ es) none = insert_step k v e es (R k e.0) refl none (insert_is_put k v es)
+
+  pub sorted_put : (k : K) (v : X) (entries new : List (K × X)) → is_sorted R entries ≡ true → new ≡ put R k v entries → is_sorted R new ≡ true
+  sorted_put k v entries new sorted is = ap (is_sorted R) is ∙ of_T _ (is_sorted-put R total k v entries (T_of _ sorted))
 
 -- a list from which entries were taken out is in order
 pub sorted_kept : {K X : Type 0} (R : K → K → Ordering) (test : K → Bool) (entries kept : List (K × X)) → is_sorted R entries ≡ true → kept ≡ where_key R test entries

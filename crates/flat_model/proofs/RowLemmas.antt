@@ -1,11 +1,15 @@
 -- Looking up a place among entries, by position.
-use Rattle.std.proofs.Common.{◌≡◌, ℕ, zero, suc, ◌+◌, ◌<◌, ◌≤◌, Bool, true, false, cond, List, [], ◌∷◌, length, get_or, refl, sym, ap, subst, ◌∙◌, Option, Some, None, option_map, slice_get, arith, ◌==◌, ◌&&◌}
+use Rattle.std.proofs.Common.{not, if◌then◌else◌, ◌≡◌, ℕ, zero, suc, ◌+◌, ◌<◌, ◌≤◌, Bool, true, false, cond, List, [], ◌∷◌, length, get_or, refl, sym, ap, subst, ◌∙◌, Option, Some, None, option_map, slice_get, arith, ◌==◌, ◌&&◌}
 use Rattle.std.proofs.lemmas.Bool.Decides.{nat_tests}
 use Rattle.std.proofs.lemmas.List.Quantifiers.{position-Some}
-use Rattle.std.proofs.lemmas.Option.{get_or_from_slice_get, slice_get_read}
-use Rattle.std.specs.List.{position}
-use Rattle.std.specs.FinMap.Entries.{find}
-use Rattle.std.specs.Ordering.{eq_by_cmp}
+use Rattle.std.proofs.lemmas.Option.{cond_some, get_or_from_slice_get, slice_get_read}
+use Rattle.std.proofs.lemmas.List.Sums.{prefix_len-le-length}
+use Rattle.std.proofs.Math.ListN.{set}
+use Rattle.std.specs.List.{position, position_or_len, insert}
+use Rattle.std.specs.FinMap.Entries.{find, put, is_sorted}
+use Rattle.std.specs.Ordering.{eq_by_cmp, is_lt}
+use Rattle.flat_model.proofs.PlaceLemmas.{place_total}
+use Rattle.flat_model.proofs.PutLemmas.{T_of, put_at, insert_is_put, sorted_put}
 use Rattle.cl_types.specs.Places.{Place, place_cmp}
 use Rattle.flat_model.specs.Rows.{is_at}
 
@@ -76,3 +80,29 @@ pub read_value : {V : Type 0} (rows entries : List (Place × V)) (i : ℕ) (entr
 read_value {V} rows entries i entry same within is =
     ap (λ (o : Option (Place × V)). option_map (λ e. e.1) o)
     (ap (λ (es : List (Place × V)). slice_get es i) (sym same) ∙ slice_get_read rows (length entries) i entry (ap length (sym same)) within is)
+
+pub position_is : {X : Type 0} (p : X → Bool) (xs : List X) (i : ℕ) → position p xs ≡ Some i → i ≡ position_or_len p xs
+position_is p xs i at = sym (cond_some _ _ _ at).1
+
+pub position_end : {X : Type 0} (p : X → Bool) (xs : List X) → position p xs ≡ None → length xs ≡ position_or_len p xs
+position_end p xs none = let within : position_or_len p xs ≤ length xs = prefix_len-le-length (λ x. not (p x)) xs in grind (arith, nat_tests)
+
+module _ {V : Type 0} (place : Place) (v : V) (lent entries : List (Place × V)) (same : lent ≡ entries) (sorted : is_sorted place_cmp entries ≡ true) where
+  -- a value written at the position of its place is put there
+  pub set_is_put : (i : ℕ) (entry : Place × V) → position (is_at place) lent ≡ Some i → entry ≡ get_or entries i entry → set entries i (entry.0, v) ≡ put place_cmp place v entries
+  set_is_put i entry at is =
+      let first = position-Some (is_at place) entries i entry (subst (λ es. position (is_at place) es ≡ Some i) same at) in
+      let key : entry.0 ≡ place = ap (λ (e : Place × V). e.0) (entry_is place entry (subst (λ e. is_at place e ≡ true) (sym is) first.1)) in
+      ap (λ (k : Place). set entries i (k, v)) key
+      ∙ sym (put_at place_cmp place_total place v entries i entry (T_of _ sorted) first.0 (ap (λ (e : Place × V). e.0) (sym is) ∙ key))
+
+  pub set_is_sorted : (i : ℕ) (entry : Place × V) → position (is_at place) lent ≡ Some i → entry ≡ get_or entries i entry → is_sorted place_cmp (set entries i (entry.0, v)) ≡ true
+  set_is_sorted i entry at is = sorted_put place_cmp place_total place v entries _ sorted (set_is_put i entry at is)
+
+  -- the result of an insertion that had room is the entry put
+  pub inserted_is_put : (other : List (Place × V)) → other ≡ entries → (i : ℕ) (new : List (Place × V)) (ok : Bool) → position (is_at place) lent ≡ None
+      → i ≡ position_or_len (λ e. is_lt (place_cmp place e.0)) other → ok ≡ true → new ≡ (if ok then insert entries i (place, v) else entries) → new ≡ put place_cmp place v entries
+  inserted_is_put other like i new ok none at passed is =
+      is ∙ ap (λ b. if b then insert entries i (place, v) else entries) passed
+      ∙ ap (λ j. insert entries j (place, v)) (at ∙ ap (position_or_len (λ e. is_lt (place_cmp place e.0))) like)
+      ∙ insert_is_put place_cmp place_total place v entries (not_found place entries (subst (λ es. position (is_at place) es ≡ None) same none))

@@ -9,6 +9,7 @@ ghost use Rattle.cl_types.specs.Places.{place_cmp};
 ghost use Rattle.flat_model.specs.State.{page_at, used};
 ghost use Rattle.flat_model.specs.Step.{is_out_of_pages, is_range, unmapped};
 
+mod change;
 mod fit;
 
 use crate::need::{Need, is_allowed};
@@ -111,25 +112,6 @@ impl Flat {
         }
     }
 
-    /// Puts bytes into the page of an entry. Without memory all stays as it was.
-    pub(crate) fn put(
-        &mut self,
-        alloc: Global,
-        i: usize,
-        at: usize,
-        bytes: &[u8],
-    ) -> Result<(), NoMemory>
-        requires entry { i < length self.old.map }
-        requires within { at + length bytes.now ≤ 4096 }
-        ensures put { OnOk result (self.new ≡ put_bytes self.old i at bytes.now) }
-        ensures unchanged { OnErr result (self.new ≡ self.old) }
-    {
-        put_in_row(alloc, &mut self.map, i, at, bytes)?;
-        Ok(())
-    }
-}
-
-impl Flat {
     /// Whether a range of exactly this start and this number of pages stands.
     pub(crate) fn is_range(&self, pid: u16, addr: Addr, pages: u16) -> bool
         requires { addr.0 < 2 ^ 28 }
@@ -140,33 +122,4 @@ impl Flat {
             Some(n) => *n == pages,
         }
     }
-
-    /// Takes out the range and its pages.
-    pub(crate) fn unmap(&mut self, pid: u16, addr: Addr, pages: u16)
-        requires { addr.0 < 2 ^ 28 }
-        ensures { self.new ≡ unmapped self.old pid (page_of addr) pages }
-    {
-        let start = (addr.0 / 4096) as u16;
-        take_out_pages(&mut self.map, pid, start, pages);
-        take_out(&mut self.ranges, (pid, start));
-    }
-}
-
-fn put_in_row(
-    alloc: Global,
-    map: &mut Vec<(Place, MappedPage)>,
-    i: usize,
-    at: usize,
-    bytes: &[u8],
-) -> Result<(), NoMemory>
-    requires order { IsTrue (is_sorted place_cmp map.old.items) }
-    requires entry { i < length map.old.items }
-    requires within { at + length bytes.now ≤ 4096 }
-    ensures put { OnOk result (map.new.items ≡ with_changed (with_put at bytes.now) (slice_get map.old.items i) map.old.items) }
-    ensures order { IsTrue (is_sorted place_cmp map.new.items) }
-    ensures unchanged { OnErr result (map.new.items ≡ map.old.items) }
-{
-    let entry = &mut map[i];
-    entry.1.put(alloc, at, bytes)?;
-    Ok(())
 }

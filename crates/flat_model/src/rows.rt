@@ -1,9 +1,10 @@
 //! Lists of entries in the order of their places. A clause sees a place as the pair of its numbers.
 
-ghost use Rattle.std.specs.Prelude.{◌≡◌, IsTrue, not, position};
+ghost use Rattle.std.specs.Prelude.{◌≡◌, ◌+◌, ◌<◌, ◌≤◌, IsTrue, length, not, position, vec_capacity, vec_len};
+ghost use Rattle.std.specs.List.{position_or_len};
 ghost use Rattle.std.specs.Option.{option_copied};
-ghost use Rattle.std.specs.FinMap.Entries.{find, is_sorted, where_key};
-ghost use Rattle.std.specs.Ordering.{eq_by_cmp};
+ghost use Rattle.std.specs.FinMap.Entries.{find, is_sorted, put as put_entry, where_key};
+ghost use Rattle.std.specs.Ordering.{eq_by_cmp, is_lt};
 ghost use Rattle.flat_model.specs.Step.{is_among};
 ghost use Rattle.cl_types.specs.Places.{place_cmp};
 ghost use Rattle.flat_model.specs.Rows.{is_at};
@@ -58,4 +59,47 @@ pub fn take_out_pages<V: Drop>(entries: &mut Vec<(Place, V)>, pid: u16, start: u
     ensures order { IsTrue (is_sorted place_cmp entries.old.items) → IsTrue (is_sorted place_cmp entries.new.items) }
 {
     entries.retain(|entry| !is_one_of(pid, start, pages, entry.0));
+}
+
+// Whether the place stands before the other.
+fn is_before(place: Place, other: Place) -> bool
+    ensures { result ≡ is_lt (place_cmp place other) }
+{
+    place.0 < other.0 || place.0 == other.0 && place.1 < other.1
+}
+
+fn first_behind<V>(entries: &[(Place, V)], place: Place) -> Option<usize>
+    ensures { result ≡ position (λ entry. is_lt (place_cmp place entry.0)) entries.now }
+{
+    entries.iter().position(|entry| is_before(place, entry.0))
+}
+
+// Where the first entry behind the place stands, or would stand.
+#[tactic(auto, using(crate::proofs::RowLemmas::position_is, crate::proofs::RowLemmas::position_end))]
+fn position_behind<V>(entries: &[(Place, V)], place: Place) -> usize
+    ensures position { result ≡ position_or_len (λ entry. is_lt (place_cmp place entry.0)) entries.now }
+    ensures within { result ≤ length entries.now }
+{
+    match first_behind(entries, place) {
+        Some(i) => i,
+        None => entries.len(),
+    }
+}
+
+/// Puts a value at its place. There is room for an entry.
+pub fn put<V: Drop>(entries: &mut Vec<(Place, V)>, place: Place, value: V)
+    requires order { IsTrue (is_sorted place_cmp entries.old.items) }
+    requires room { vec_len entries.old < vec_capacity entries.old }
+    ensures put { entries.new.items ≡ put_entry place_cmp place value entries.old.items }
+    ensures order { IsTrue (is_sorted place_cmp entries.new.items) }
+    ensures len { vec_len entries.new ≤ vec_len entries.old + 1 }
+    ensures capacity { vec_capacity entries.old ≤ vec_capacity entries.new }
+{
+    match position_of(entries, place) {
+        Some(i) => entries[i].1 = value,
+        None => {
+            let i = position_behind(entries, place);
+            let _ = entries.insert(i, (place, value));
+        }
+    }
 }
