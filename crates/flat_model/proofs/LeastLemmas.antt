@@ -107,3 +107,9 @@ no_start_fits buckets places pid n some = (
     cc (passes, fails),
   λ nowhere. nowhere_none buckets places pid n (least buckets places pid n) refl nowhere,
 )
+
+pub none_is_nowhere : (buckets : ℕ) (places : List Place) (pid n : ℕ) → 1 ≤ n → least buckets places pid n ≡ None → FitsNowhere buckets places pid n
+none_is_nowhere buckets places pid n some none = (no_start_fits buckets places pid n some).0 none
+
+pub nowhere_is_none : (buckets : ℕ) (places : List Place) (pid n : ℕ) → 1 ≤ n → FitsNowhere buckets places pid n → least buckets places pid n ≡ None
+nowhere_is_none buckets places pid n some nowhere = (no_start_fits buckets places pid n some).1 nowhere

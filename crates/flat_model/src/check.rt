@@ -1,18 +1,18 @@
 //! Whether a request and its reply are a step of the flat machine.
 
-ghost use Rattle.std.specs.Prelude.{◌≡◌, ◌+◌, ◌%◌, ◌≤◌, ◌<◌, ◌^◌, ◌↔◌, IfOk, OnErr, IsTrue, length};
+ghost use Rattle.std.specs.Prelude.{◌≡◌, ◌+◌, ◌%◌, ◌≤◌, ◌<◌, ◌^◌, ◌↔◌, IfOk, OnErr, IsTrue, if◌then◌else◌, length};
 ghost use Rattle.cl_types.specs.Bytes.{bytes_at};
 ghost use Rattle.flat_model.specs.Pages.{offset_of};
 ghost use Rattle.flat_model.specs.Ranges.{is_in_range};
 ghost use Rattle.flat_model.specs.State.{bytes_of};
-ghost use Rattle.flat_model.specs.Step.{atomic, free, read, write};
+ghost use Rattle.flat_model.specs.Step.{MayAlloc, alloc_after, atomic, free, read, write};
 ghost use Rattle.flat_model.specs.Pages.{word_after};
 ghost use Rattle.flat_model.specs.Rows.{Checks};
 
 use crate::flat::Flat;
 use crate::need::may_be_read;
 use crate::page::MappedPage;
-use cl_types::call::AtomicOp;
+use cl_types::call::{AtomicOp, Perm};
 use cl_types::items::NoMemory;
 use cl_types::numbers::Addr;
 use std::alloc::Global;
@@ -162,4 +162,47 @@ fn check_free(flat: &mut Flat, pid: u16, addr: Addr, pages: u16, reply: &Reply) 
     }
     flat.unmap(pid, addr, pages);
     true
+}
+
+// Whether an Alloc may start here.
+fn is_start(flat: &Flat, pid: u16, addr: Addr, pages: u16) -> bool
+    requires { 1 ≤ pages }
+    ensures { IsTrue result ↔ MayAlloc flat.now pid pages (Reply.At addr) }
+{
+    addr.0 % 4096 == 0 && flat.fits(pid, addr.0 / 4096, pages)
+}
+
+// Whether an Alloc may be refused.
+#[tactic(auto, using(crate::proofs::LeastLemmas::none_is_nowhere, crate::proofs::LeastLemmas::nowhere_is_none))]
+fn has_no_start(flat: &Flat, pid: u16, pages: u16) -> bool
+    requires { 1 ≤ pages }
+    ensures { IsTrue result ↔ MayAlloc flat.now pid pages (Reply.Refused Refusal.NoRange) }
+{
+    flat.least_start(pid, pages).is_none()
+}
+
+// The same of an Alloc, which may start wherever it fits.
+fn check_alloc(
+    flat: &mut Flat,
+    pid: u16,
+    pages: u16,
+    perm: Perm,
+    reply: &Reply,
+) -> Result<bool, NoMemory>
+    requires { 1 ≤ pages }
+    ensures allowed { IfOk result (λ may. IsTrue may ↔ MayAlloc flat.old pid pages reply.now) }
+    ensures after { IfOk result (λ may. flat.new ≡ (if may then alloc_after flat.old pid pages perm reply.now else flat.old)) }
+    ensures unchanged { OnErr result (flat.new ≡ flat.old) }
+{
+    match reply {
+        Reply::At(addr) => {
+            if !is_start(flat, pid, *addr, pages) {
+                return Ok(false);
+            }
+            flat.map(pid, (addr.0 / 4096) as u16, pages, perm)?;
+            Ok(true)
+        }
+        Reply::Refused(Refusal::NoRange) => Ok(has_no_start(flat, pid, pages)),
+        _ => Ok(false),
+    }
 }
