@@ -1,9 +1,9 @@
 pub mod ChangeLemmas
 pub mod CheckLemmas
+pub mod EntryLemmas
 pub mod FitLemmas
 pub mod FreshLemmas
 pub mod LeastLemmas
 pub mod OpenLemmas
 pub mod PlaceLemmas
 pub mod PutLemmas
-pub mod RowLemmas

@@ -11,7 +11,8 @@ use Rattle.flat_model.specs.Rows.{is_at, allows, Opens}
 use Rattle.flat_model.specs.declared.need.Need.{Need}
 use Rattle.flat_model.specs.State.{FlatState, Page, page_at}
 use Rattle.flat_model.specs.Step.{Outcome, refused, on_found, if_allowed, if_pages_last, on_bytes, is_out_of_pages}
-use Rattle.flat_model.proofs.RowLemmas.{at_position, not_found}
+use Rattle.flat_model.proofs.EntryLemmas.{at_position, not_found}
+use Rattle.flat_model.proofs.PlaceLemmas.{place_exact}
 
 module _ (s : FlatState) (pid : ℕ) (addr : Addr) (need : Need) where
   -- with the page's bytes, if it may have them
@@ -19,7 +20,7 @@ module _ (s : FlatState) (pid : ℕ) (addr : Addr) (need : Need) where
   goes go page = if_pages_last s (is_out_of_pages s page) (go page)
 
   pub opens_none : position (is_at (pid, page_of addr)) s.map ≡ None → (go : Page → Outcome) → on_bytes s pid addr (allows need) go ≡ refused s NoMapping
-  opens_none none go = ap (on_found s (allows need) (goes go)) (not_found (pid, page_of addr) s.map none)
+  opens_none none go = ap (on_found s (allows need) (goes go)) (not_found place_cmp (pid, page_of addr) s.map none)
 
   -- the entry at this position has this page, and the permission is so
   pub record Stands (i : ℕ) (page : Page) (allowed : Bool) : Type 0 where
@@ -29,7 +30,7 @@ module _ (s : FlatState) (pid : ℕ) (addr : Addr) (need : Need) where
 
   found_page : {i : ℕ} {page : Page} {allowed : Bool} → Stands i page allowed → (go : Page → Outcome) → on_bytes s pid addr (allows need) go ≡ if_allowed s allowed (goes go page)
   found_page {i} {page} stands go =
-      ap (on_found s (allows need) (goes go)) (at_position (pid, page_of addr) s.map i page stands.at stands.value).1
+      ap (on_found s (allows need) (goes go)) (at_position place_cmp (pid, page_of addr) place_exact s.map i page stands.at stands.value).1
       ∙ ap (λ b. if_allowed s b (goes go page)) stands.perm
 
   pub opens_denied : {i : ℕ} {page : Page} → Stands i page false → (go : Page → Outcome) → on_bytes s pid addr (allows need) go ≡ refused s NoPermission
@@ -41,6 +42,6 @@ module _ (s : FlatState) (pid : ℕ) (addr : Addr) (need : Need) where
   pub opens_page : {i : ℕ} {page : Page} → Stands i page true → is_out_of_pages s page ≡ false → Opens s pid addr (allows need) (Ok i)
   opens_page {i} {page} stands out = (
     page,
-    (at_position (pid, page_of addr) s.map i page stands.at stands.value).0,
+    (at_position place_cmp (pid, page_of addr) place_exact s.map i page stands.at stands.value).0,
     λ go. found_page stands go ∙ ap (λ b. if_pages_last s b (go page)) out,
   )

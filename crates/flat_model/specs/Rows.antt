@@ -1,5 +1,6 @@
 -- What the plain lists of a flat state stand for.
 use Rattle.std.specs.Prelude.{ℕ, ◌≡◌, ◌==◌, ◌↔◌, Bool, ◌&&◌, List, Option, Some, None, Result, Ok, Err, slice_get, if◌then◌else◌, IsTrue}
+use Rattle.std.specs.Ordering.{eq_by_cmp}
 use Rattle.std.specs.FinMap.Entries.{is_sorted, put}
 use Rattle.cl_types.specs.Places.{Place, place_cmp, is_bucket_count}
 use Rattle.cl_types.specs.declared.call.Perm.{Perm}
@@ -15,7 +16,7 @@ use Rattle.cl_types.specs.Bytes.{with_bytes}
 
 -- the entry is that of this place
 abbrev pub is_at : {V : Type 0} → Place → Place × V → Bool
-is_at place entry = entry.0.0 == place.0 && entry.0.1 == place.1
+is_at place entry = eq_by_cmp place_cmp place entry.0
 
 -- the permission is enough for what is to be done
 abbrev pub allows : Need → Perm → Bool

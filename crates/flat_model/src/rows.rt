@@ -18,7 +18,7 @@ pub fn position_of<V>(entries: &[(Place, V)], place: Place) -> Option<usize>
 {
     entries
         .iter()
-        .position(|entry| entry.0.0 == place.0 && entry.0.1 == place.1)
+        .position(|entry| is_same(place, entry.0))
 }
 
 /// The value of this place.
@@ -75,7 +75,7 @@ fn first_behind<V>(entries: &[(Place, V)], place: Place) -> Option<usize>
 }
 
 // Where the first entry behind the place stands, or would stand.
-#[tactic(auto, using(crate::proofs::RowLemmas::position_is, crate::proofs::RowLemmas::position_end))]
+#[tactic(auto, using(crate::proofs::EntryLemmas::position_is, crate::proofs::EntryLemmas::position_end))]
 fn position_behind<V>(entries: &[(Place, V)], place: Place) -> usize
     ensures position { result ≡ position_or_len (λ entry. is_lt (place_cmp place entry.0)) entries.now }
     ensures within { result ≤ length entries.now }

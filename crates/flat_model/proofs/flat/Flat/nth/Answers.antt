@@ -1,6 +1,6 @@
 use Rattle.std.proofs.Common.{ap}
 use Rattle.flat_model.specs.State.{FlatState}
-use Rattle.flat_model.proofs.RowLemmas.{read_value}
+use Rattle.flat_model.proofs.EntryLemmas.{read_value}
 use Rattle.flat_model.proofs.flat.Flat.nth.Goals as goal
 
 pub returns : goal.returns
