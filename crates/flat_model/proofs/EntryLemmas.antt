@@ -93,17 +93,17 @@ module _ {K V : Type 0} (R : K → K → Ordering) (key : K) where
     at_position entries i v at value = at_entry entries i v (slice_get entries i) refl at value
 
     -- ---- putting a value
-    module _ (total : IsTotalOrder R) (v : V) (lent entries : List (K × V)) (same : lent ≡ entries) (sorted : is_sorted R entries ≡ true) where
+    module _ (total : IsTotalOrder R) (v : V) (lent entries : List (K × V)) (same : lent ≡ entries) where
       -- a value written at the position of its key is put there
-      pub set_is_put : (i : ℕ) (entry : K × V) → position is_of lent ≡ Some i → entry ≡ get_or entries i entry → set entries i (entry.0, v) ≡ put R key v entries
-      set_is_put i entry at is =
+      pub set_is_put : (i : ℕ) (entry : K × V) → is_sorted R entries ≡ true → position is_of lent ≡ Some i → entry ≡ get_or entries i entry → set entries i (entry.0, v) ≡ put R key v entries
+      set_is_put i entry sorted at is =
           let first = position-Some is_of entries i entry (subst (λ es. position is_of es ≡ Some i) same at) in
           let here : entry.0 ≡ key = ap (λ (e : K × V). e.0) (entry_is entry (subst (λ e. is_of e ≡ true) (sym is) first.1)) in
           ap (λ (k : K). set entries i (k, v)) here
           ∙ sym (put_at R total key v entries i entry (T_of _ sorted) first.0 (ap (λ (e : K × V). e.0) (sym is) ∙ here))
 
-      pub set_is_sorted : (i : ℕ) (entry : K × V) → position is_of lent ≡ Some i → entry ≡ get_or entries i entry → is_sorted R (set entries i (entry.0, v)) ≡ true
-      set_is_sorted i entry at is = sorted_put R total key v entries _ sorted (set_is_put i entry at is)
+      pub set_is_sorted : (i : ℕ) (entry : K × V) → is_sorted R entries ≡ true → position is_of lent ≡ Some i → entry ≡ get_or entries i entry → is_sorted R (set entries i (entry.0, v)) ≡ true
+      set_is_sorted i entry sorted at is = sorted_put R total key v entries _ sorted (set_is_put i entry sorted at is)
 
       -- the result of an insertion that had room is the entry put
       pub inserted_is_put : (other : List (K × V)) → other ≡ entries → (i : ℕ) (new : List (K × V)) (ok : Bool) → position is_of lent ≡ None

@@ -3,6 +3,7 @@ pub mod CheckLemmas
 pub mod EntryLemmas
 pub mod FitLemmas
 pub mod FreshLemmas
+pub mod KeyLemmas
 pub mod LeastLemmas
 pub mod OpenLemmas
 pub mod PlaceLemmas

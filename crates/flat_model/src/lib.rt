@@ -13,5 +13,6 @@ mod check;
 pub mod laws;
 mod need;
 mod page;
+mod pairs;
 mod rows;
 mod store;

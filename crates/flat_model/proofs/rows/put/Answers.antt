@@ -7,15 +7,15 @@ use Rattle.flat_model.proofs.rows.put.Goals as goal
 
 pub returns-in-Some-clause-put : goal.returns-in-Some-clause-put
 returns-in-Some-clause-put g c =
-    set_is_put place_cmp c.args.place place_exact place_total c.args.value _ c.args.entries.now.items c.deref.ensures.value c.requires.order c.in-Some.i _ (sym c.in-Some.ensures) c.index_mut.ensures.value
+    set_is_put place_cmp c.args.place place_exact place_total c.args.value _ c.args.entries.now.items c.deref.ensures.value c.in-Some.i _ c.requires.order (sym c.in-Some.ensures) c.index_mut.ensures.value
 
 pub returns-in-Some-clause-order : goal.returns-in-Some-clause-order
 returns-in-Some-clause-order g c =
-    set_is_sorted place_cmp c.args.place place_exact place_total c.args.value _ c.args.entries.now.items c.deref.ensures.value c.requires.order c.in-Some.i _ (sym c.in-Some.ensures) c.index_mut.ensures.value
+    set_is_sorted place_cmp c.args.place place_exact place_total c.args.value _ c.args.entries.now.items c.deref.ensures.value c.in-Some.i _ c.requires.order (sym c.in-Some.ensures) c.index_mut.ensures.value
 
 pub returns-in-None-clause-put : goal.returns-in-None-clause-put
 returns-in-None-clause-put g c =
-    inserted_is_put place_cmp c.args.place place_exact place_total c.args.value _ c.args.entries.now.items c.deref.ensures.value c.requires.order
+    inserted_is_put place_cmp c.args.place place_exact place_total c.args.value _ c.args.entries.now.items c.deref.ensures.value
     _ c.deref-in-None.ensures.value _ _ _ (sym c.in-None.ensures) c.position_behind-i.ensures.position (c.insert.ensures.succeeds c.requires.room) c.insert.ensures.items
 
 pub returns-in-None-clause-order : goal.returns-in-None-clause-order
