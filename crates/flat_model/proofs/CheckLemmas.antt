@@ -10,7 +10,8 @@ use Rattle.cl_types.specs.declared.reply.Refusal.{Refusal}
 use Rattle.cl_types.specs.declared.reply.Reply.{Reply}
 use Rattle.cl_types.specs.declared.reply.Reply.TheVariants.{Refused, Nothing, Word}
 use Rattle.flat_model.specs.Pages.{page_of, offset_of, word_at, word_after}
-use Rattle.flat_model.specs.Rows.{Opens, Checks, put_bytes, with_changed, with_put}
+use Rattle.flat_model.specs.Rows.{put_bytes, with_changed, with_put}
+use Rattle.flat_model.specs.Checks.{Opens, Checks}
 use Rattle.flat_model.specs.State.{FlatState, Page, bytes_of}
 use Rattle.flat_model.specs.Step.{Outcome, refused, puts, write, atomic, may_write, may_change}
 

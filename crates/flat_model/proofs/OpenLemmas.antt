@@ -7,7 +7,8 @@ use Rattle.cl_types.specs.declared.call.Perm.{Perm}
 use Rattle.cl_types.specs.declared.numbers.Addr.{Addr}
 use Rattle.cl_types.specs.declared.reply.Refusal.TheVariants.{NoMapping, NoPermission, NoPage}
 use Rattle.flat_model.specs.Pages.{page_of}
-use Rattle.flat_model.specs.Rows.{is_at, allows, Opens}
+use Rattle.flat_model.specs.Rows.{is_at, allows}
+use Rattle.flat_model.specs.Checks.{Opens}
 use Rattle.flat_model.specs.declared.need.Need.{Need}
 use Rattle.flat_model.specs.State.{FlatState, Page, page_at}
 use Rattle.flat_model.specs.Step.{Outcome, refused, on_found, if_allowed, if_pages_last, on_bytes, is_out_of_pages}

@@ -6,4 +6,5 @@ pub mod Step
 pub mod Ranges
 pub mod Run
 pub mod Rows
+pub mod Checks
 pub mod LeastStart

@@ -34,12 +34,6 @@ pub record AreInOrder (pages : List (Place × Page)) (ranges : List (Place × �
 abbrev pub with_put : ℕ → List ℕ → Page → Page
 with_put at bytes page = record page { bytes = Some (with_bytes at bytes (bytes_of page)) }
 
--- What looking for the page of an address gives, that is to get bytes: why it gets none, or the position of its entry.
-abbrev pub Opens : FlatState → ℕ → Addr → (Perm → Bool) → Result ℕ Refusal → Type 0
-Opens s pid addr may (Err refusal) = (go : Page → Outcome) → on_bytes s pid addr may go ≡ refused s refusal
-Opens s pid addr may (Ok i) =
-    (page : Page) × (slice_get s.map i ≡ Some ((pid, page_of addr), page)) × ((go : Page → Outcome) → on_bytes s pid addr may go ≡ go page)
-
 -- the pages with one changed
 abbrev pub with_changed : (Page → Page) → Option (Place × Page) → List (Place × Page) → List (Place × Page)
 with_changed change None pages = pages
@@ -48,8 +42,3 @@ with_changed change (Some entry) pages = put place_cmp entry.0 (change entry.1) 
 -- bytes put into the page of the i-th entry
 abbrev pub put_bytes : FlatState → ℕ → ℕ → List ℕ → FlatState
 put_bytes s i at bytes = record s { map = with_changed (with_put at bytes) (slice_get s.map i) s.map }
-
--- whether the machine gives this reply, and the state after it, which is the old one where it doesn't
-pub record Checks (old : FlatState) (outcome : Outcome) (reply : Reply) (may : Bool) (new : FlatState) : Type 0 where
-  pub allowed : IsTrue may ↔ (reply ≡ outcome.reply)
-  pub after : new ≡ (if may then outcome.state else old)

@@ -7,10 +7,11 @@ ghost use Rattle.flat_model.specs.Ranges.{is_in_range};
 ghost use Rattle.flat_model.specs.State.{bytes_of};
 ghost use Rattle.flat_model.specs.Step.{MayAlloc, alloc_after, atomic, free, read, write};
 ghost use Rattle.flat_model.specs.Pages.{word_after};
-ghost use Rattle.flat_model.specs.Rows.{Checks};
+ghost use Rattle.flat_model.specs.Checks.{Checks};
 
 use crate::flat::Flat;
 use crate::need::may_be_read;
+use crate::replies::{is_nothing, is_refusal, is_word};
 use crate::page::MappedPage;
 use cl_types::call::{AtomicOp, Perm};
 use cl_types::items::NoMemory;
@@ -18,15 +19,6 @@ use cl_types::numbers::Addr;
 use std::alloc::Global;
 use crate::need::Need;
 use cl_types::reply::{Refusal, Reply};
-
-fn is_refusal(reply: &Reply, refusal: Refusal) -> bool
-    ensures { IsTrue result ↔ (reply.now ≡ Reply.Refused refusal) }
-{
-    match reply {
-        Reply::Refused(given) => *given == refusal,
-        _ => false,
-    }
-}
 
 // Whether the reply is what the page has there.
 fn shows(page: &MappedPage, addr: Addr, len: u16, reply: &Reply) -> bool
@@ -53,21 +45,6 @@ fn replies_to_read(flat: &Flat, pid: u16, addr: Addr, len: u16, reply: &Reply) -
             }
             shows(page, addr, len, reply)
         }
-    }
-}
-
-fn is_nothing(reply: &Reply) -> bool
-    ensures { IsTrue result ↔ (reply.now ≡ Reply.Nothing) }
-{
-    matches!(reply, Reply::Nothing)
-}
-
-fn is_word(reply: &Reply, word: u64) -> bool
-    ensures { IsTrue result ↔ (reply.now ≡ Reply.Word word) }
-{
-    match reply {
-        Reply::Word(given) => *given == word,
-        _ => false,
     }
 }
 

@@ -3,7 +3,8 @@
 ghost use Rattle.std.specs.Prelude.{◌≡◌, ◌+◌, ◌<◌, ◌≤◌, ◌^◌, OnOk, OnErr, Some, IsTrue, count_by, is_some, leb, length, option_map, position, slice_get};
 ghost use Rattle.std.specs.Option.{option_copied};
 ghost use Rattle.flat_model.specs.Pages.{page_of};
-ghost use Rattle.flat_model.specs.Rows.{Opens, allows, is_at, put_bytes, with_changed, with_put};
+ghost use Rattle.flat_model.specs.Rows.{allows, is_at, put_bytes, with_changed, with_put};
+ghost use Rattle.flat_model.specs.Checks.{Opens};
 ghost use Rattle.std.specs.FinMap.Entries.{is_sorted};
 ghost use Rattle.cl_types.specs.Places.{place_cmp};
 ghost use Rattle.flat_model.specs.State.{page_at, used};

@@ -14,5 +14,6 @@ pub mod laws;
 mod need;
 mod page;
 mod pairs;
+mod replies;
 mod rows;
 mod store;

@@ -73,6 +73,7 @@ pub fn put(
 ) -> Result<(), NoMemory>
     requires { IsTrue (is_sorted key_cmp pairs.old.items) }
     ensures put { OnOk result (pairs.new.items ≡ put_entry key_cmp key.now value.now pairs.old.items) }
+    ensures order { IsTrue (is_sorted key_cmp pairs.new.items) }
     ensures unchanged { OnErr result (pairs.new.items ≡ pairs.old.items) }
 {
     let value = copied(alloc, value)?;
@@ -90,8 +91,10 @@ fn insert(
     key: &[u8],
     value: Bytes,
 ) -> Result<(), NoMemory>
-    requires { position (λ pair. eq_by_cmp key_cmp key.now pair.0) pairs.old.items ≡ None }
+    requires absent { position (λ pair. eq_by_cmp key_cmp key.now pair.0) pairs.old.items ≡ None }
+    requires order { IsTrue (is_sorted key_cmp pairs.old.items) }
     ensures put { OnOk result (pairs.new.items ≡ put_entry key_cmp key.now value pairs.old.items) }
+    ensures order { IsTrue (is_sorted key_cmp pairs.new.items) }
     ensures unchanged { OnErr result (pairs.new.items ≡ pairs.old.items) }
 {
     let i = position_behind(pairs, key);
@@ -102,9 +105,10 @@ fn insert(
     Ok(())
 }
 
-/// Takes out the pair of this key, and tells whether there was one.
+/// Takes out the pair of this key.
 pub fn take_out(pairs: &mut Vec<Pair>, key: &[u8])
-    ensures { pairs.new.items ≡ where_key key_cmp (λ other. not (eq_by_cmp key_cmp key.now other)) pairs.old.items }
+    ensures kept { pairs.new.items ≡ where_key key_cmp (λ other. not (eq_by_cmp key_cmp key.now other)) pairs.old.items }
+    ensures order { IsTrue (is_sorted key_cmp pairs.old.items) → IsTrue (is_sorted key_cmp pairs.new.items) }
 {
     pairs.retain(|pair| !order_of(key, &pair.0).is_eq());
 }
