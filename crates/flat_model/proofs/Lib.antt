@@ -5,6 +5,7 @@ pub mod FitLemmas
 pub mod FreshLemmas
 pub mod KeyLemmas
 pub mod LeastLemmas
+pub mod ObjectLemmas
 pub mod OpenLemmas
 pub mod PlaceLemmas
 pub mod PutLemmas

@@ -1,11 +1,11 @@
 -- What checking a step tells.
-use Rattle.std.specs.Prelude.{ℕ, ◌≡◌, ◌↔◌, Bool, List, take, Some, Result, Ok, Err, slice_get, if◌then◌else◌, IsTrue}
+use Rattle.std.specs.Prelude.{ℕ, ◌≡◌, ◌↔◌, Bool, List, take, Some, Result, Ok, Err, slice_get, slice_set, if◌then◌else◌, IsTrue}
 use Rattle.cl_types.specs.declared.call.Perm.{Perm}
 use Rattle.cl_types.specs.declared.numbers.Addr.{Addr}
 use Rattle.cl_types.specs.declared.reply.Refusal.{Refusal}
 use Rattle.cl_types.specs.declared.reply.Reply.{Reply}
 use Rattle.cl_types.specs.declared.reply.Reply.TheVariants.{Refused, Got}
-use Rattle.flat_model.specs.Objects.{Object, Given}
+use Rattle.flat_model.specs.Objects.{Object, Given, object_step}
 use Rattle.flat_model.specs.Pages.{page_of}
 use Rattle.flat_model.specs.State.{FlatState, Page}
 use Rattle.flat_model.specs.Step.{Outcome, on_bytes, refused}
@@ -36,3 +36,9 @@ object_given old (Ok (answer, object)) = object
 pub record ChecksObject (old : Object) (given : Given) (out : ℕ) (reply : Reply) (may : Bool) (new : Object) : Type 0 where
   pub allowed : IsTrue may ↔ (reply ≡ reply_given out given)
   pub after : new ≡ (if may then object_given old given else old)
+
+-- the same of one object of a list
+pub record ChecksOne (objects : List Object) (number : ℕ) (object : Object) (op : ℕ) (bytes : List ℕ) (out : ℕ) (reply : Reply) (may : Bool) (rest : List Object) : Type 0 where
+  pub new : Object
+  pub checks : ChecksObject object (object_step object op bytes) out reply may new
+  pub set : rest ≡ slice_set objects number new

@@ -12,6 +12,7 @@ ghost use Rattle.flat_model.specs.Step.{is_out_of_pages, is_range, unmapped};
 
 mod change;
 mod fit;
+mod object;
 
 use crate::need::{Need, is_allowed};
 use crate::page::MappedPage;
