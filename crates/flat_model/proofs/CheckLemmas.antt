@@ -1,7 +1,11 @@
 -- What a checked write or atomic comes to.
-use Rattle.std.proofs.Common.{◌≡◌, ◌<◌, ◌↔◌, ℕ, Bool, true, false, IsTrue, List, length, Option, Some, None, Ok, option_map, slice_get, refl, sym, ap, subst, ◌∙◌, if◌then◌else◌}
+use Rattle.std.proofs.Common.{IfOk, Result, ◌≡◌, ◌<◌, ◌↔◌, ℕ, Bool, true, false, IsTrue, List, length, Option, Some, None, Ok, option_map, slice_get, refl, sym, ap, subst, ◌∙◌, arith, if◌then◌else◌}
 use Rattle.std.specs.Int.{to_le_bytes, w64}
 use Rattle.std.proofs.lemmas.Option.{slice_get_within}
+use Rattle.std.proofs.lemmas.Result.{IfOk-weaker}
+use Rattle.cl_types.specs.declared.items.NoMemory.{NoMemory}
+use Rattle.cl_types.specs.declared.request.Request.{Request}
+use Rattle.flat_model.specs.Ranges.{is_in_range}
 use Rattle.cl_types.specs.Places.{Place}
 use Rattle.cl_types.specs.declared.call.AtomicOp.{AtomicOp}
 use Rattle.cl_types.specs.declared.call.Perm.{Perm}
@@ -11,9 +15,9 @@ use Rattle.cl_types.specs.declared.reply.Reply.{Reply}
 use Rattle.cl_types.specs.declared.reply.Reply.TheVariants.{Refused, Nothing, Word}
 use Rattle.flat_model.specs.Pages.{page_of, offset_of, word_at, word_after}
 use Rattle.flat_model.specs.Rows.{put_bytes, with_changed, with_put}
-use Rattle.flat_model.specs.Checks.{Opens, Checks}
+use Rattle.flat_model.specs.Checks.{Opens, Checks, MayStep}
 use Rattle.flat_model.specs.State.{FlatState, Page, bytes_of}
-use Rattle.flat_model.specs.Step.{Outcome, refused, puts, write, atomic, may_write, may_change}
+use Rattle.flat_model.specs.Step.{MayReply, Outcome, refused, puts, read, write, atomic, may_write, may_change}
 
 same_either_way : {A : Type 0} (b : Bool) (x y : A) → x ≡ y → y ≡ (if b then x else y)
 same_either_way true x y same = sym same
@@ -88,3 +92,15 @@ module _ (s : FlatState) (pid : ℕ) (addr : Addr) (i : ℕ) (op : AtomicOp) (re
 
   pub checks_no_atomic : Read → may ≡ false → Checks s (atomic s pid addr op) reply false s
   checks_no_atomic r fails = checks_other s (atomic s pid addr op) reply may (atomic_test r) fails
+
+-- a read changes nothing
+pub read_keeps : (s : FlatState) (pid : ℕ) (addr : Addr) (n : ℕ) → (read s pid addr n).state ≡ s
+read_keeps s pid addr n = grind arith
+
+-- what may be replied to a request in its ranges is a step
+pub may_step : (s : FlatState) (number pid : ℕ) (request : Request) (reply : Reply) (result : Result Bool NoMemory) → number ≡ pid → IsTrue (is_in_range request)
+    → IfOk result (λ may. IsTrue may ↔ MayReply s number request reply) → IfOk result (λ may. IsTrue may ↔ MayStep s pid request reply)
+may_step s number pid request reply result same in_range may =
+    IfOk-weaker result (λ b. IsTrue b ↔ MayReply s pid request reply) (λ b. IsTrue b ↔ MayStep s pid request reply)
+    (λ b both. (λ is. record { in_range = in_range; may = both.0 is }, λ step. both.1 step.may))
+    (subst (λ (n : ℕ). IfOk result (λ b. IsTrue b ↔ MayReply s n request reply)) same may)

@@ -9,3 +9,4 @@ pub mod ObjectLemmas
 pub mod OpenLemmas
 pub mod PlaceLemmas
 pub mod PutLemmas
+pub mod RangeLemmas

@@ -1,13 +1,14 @@
 //! Whether a request and its reply are a step of the flat machine.
 
-ghost use Rattle.std.specs.Prelude.{◌≡◌, ◌+◌, ◌%◌, ◌≤◌, ◌<◌, ◌^◌, ◌↔◌, IfOk, OnErr, IsTrue, if◌then◌else◌, length};
+ghost use Rattle.std.specs.Prelude.{◌≡◌, ◌+◌, ◌%◌, ◌≤◌, ◌<◌, ◌^◌, ◌↔◌, IfOk, OnErr, IsTrue, false, if◌then◌else◌, length};
 ghost use Rattle.cl_types.specs.Bytes.{bytes_at};
 ghost use Rattle.flat_model.specs.Pages.{offset_of};
 ghost use Rattle.flat_model.specs.Ranges.{is_in_range};
 ghost use Rattle.flat_model.specs.State.{bytes_of};
-ghost use Rattle.flat_model.specs.Step.{MayAlloc, alloc_after, atomic, free, read, write};
+ghost use Rattle.flat_model.specs.Step.{MayAlloc, MayReply, alloc_after, atomic, free, read, state_after, write};
 ghost use Rattle.flat_model.specs.Pages.{word_after};
-ghost use Rattle.flat_model.specs.Checks.{Checks};
+ghost use Rattle.flat_model.specs.Checks.{Checks, MayStep};
+ghost use Rattle.flat_model.specs.Run.{Step};
 
 use crate::flat::Flat;
 use crate::need::may_be_read;
@@ -15,7 +16,9 @@ use crate::replies::{is_nothing, is_refusal, is_word};
 use crate::page::MappedPage;
 use cl_types::call::{AtomicOp, Perm};
 use cl_types::items::NoMemory;
-use cl_types::numbers::Addr;
+use cl_types::numbers::{Addr, Pid};
+use cl_types::request::Request;
+use crate::ranges::may_be_sent;
 use std::alloc::Global;
 use crate::need::Need;
 use cl_types::reply::{Refusal, Reply};
@@ -182,4 +185,56 @@ fn check_alloc(
         Reply::Refused(Refusal::NoRange) => Ok(has_no_start(flat, pid, pages)),
         _ => Ok(false),
     }
+}
+
+// Whether the machine may give this reply, and its step if it may.
+#[tactic(auto, using(crate::proofs::CheckLemmas::read_keeps, crate::proofs::RangeLemmas::word_within))]
+fn check_reply(
+    alloc: Global,
+    flat: &mut Flat,
+    pid: u16,
+    request: &Request,
+    reply: &Reply,
+) -> Result<bool, NoMemory>
+    requires { IsTrue (is_in_range request.now) }
+    ensures allowed { IfOk result (λ may. IsTrue may ↔ MayReply flat.old pid request.now reply.now) }
+    ensures after { IfOk result (λ may. flat.new ≡ (if may then state_after flat.old pid request.now reply.now else flat.old)) }
+    ensures unchanged { OnErr result (flat.new ≡ flat.old) }
+{
+    match request {
+        Request::Alloc { pages, perm } => check_alloc(flat, pid, *pages, *perm, reply),
+        Request::Free { addr, pages } => Ok(check_free(flat, pid, *addr, *pages, reply)),
+        Request::Read { addr, len } => Ok(replies_to_read(flat, pid, *addr, *len, reply)),
+        Request::Write { addr, bytes } => {
+            check_write(alloc, flat, pid, *addr, bytes.as_slice(), reply)
+        }
+        Request::Atomic { addr, op } => check_atomic(alloc, flat, pid, *addr, *op, reply),
+        Request::Offload {
+            no,
+            op,
+            out,
+            bytes,
+        } => flat.check_offload(alloc, *no, *op, *out, bytes.as_slice(), reply),
+    }
+}
+
+/// Whether the request of this process and its reply are a step of the machine, and the step itself if they are: an
+/// Alloc may start wherever it fits, and every other request has one reply. Where they are no step, and without memory,
+/// the machine stays as it was.
+pub fn check_step(
+    alloc: Global,
+    flat: &mut Flat,
+    pid: Pid,
+    request: &Request,
+    reply: &Reply,
+) -> Result<bool, NoMemory>
+    ensures allowed { IfOk result (λ may. IsTrue may ↔ MayStep flat.old pid request.now reply.now) }
+    ensures stepped { IfOk result (λ may. IsTrue may → Step flat.old pid request.now reply.now flat.new) }
+    ensures refused { IfOk result (λ may. may ≡ false → flat.new ≡ flat.old) }
+    ensures unchanged { OnErr result (flat.new ≡ flat.old) }
+{
+    if !may_be_sent(request) {
+        return Ok(false);
+    }
+    check_reply(alloc, flat, pid.number(), request, reply)
 }

@@ -14,6 +14,7 @@ pub mod laws;
 mod need;
 mod page;
 mod pairs;
+mod ranges;
 mod replies;
 mod rows;
 mod store;
