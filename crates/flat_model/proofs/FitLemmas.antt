@@ -69,7 +69,7 @@ module _ (test : Place → Bool) (pid start n i : ℕ) (below : i < n) where
   all_places_fail fails = all_fails test _ _ _ (places_next pid start n i below) fails
 
 module _ (test : ℕ → Bool) (n i : ℕ) (below : i < n) where
-  numbers_next : range_with_len i (n - i) ≡ i ∷ range_with_len (i + 1) (n - (i + 1))
+  pub numbers_next : range_with_len i (n - i) ≡ i ∷ range_with_len (i + 1) (n - (i + 1))
   numbers_next = range_next i (n - i) (omega (arith, below)) ∙ ap (λ k. i ∷ range_with_len (i + 1) k) (omega arith)
 
   pub all_numbers_next : test i ≡ true → list_all test (range_with_len i (n - i)) ≡ list_all test (range_with_len (i + 1) (n - (i + 1)))

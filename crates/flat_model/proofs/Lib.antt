@@ -1,3 +1,4 @@
+pub mod BucketLemmas
 pub mod ChangeLemmas
 pub mod CheckLemmas
 pub mod EntryLemmas
@@ -7,6 +8,7 @@ pub mod KeyLemmas
 pub mod LeastLemmas
 pub mod ObjectLemmas
 pub mod OpenLemmas
+pub mod OpeningLemmas
 pub mod PlaceLemmas
 pub mod PutLemmas
 pub mod RangeLemmas

@@ -1,12 +1,12 @@
 //! The flat machine as plain lists of pages, ranges and objects, for the checking of histories.
 
-ghost use Rattle.std.specs.Prelude.{◌≡◌, ◌+◌, ◌<◌, ◌≤◌, ◌^◌, OnOk, OnErr, Some, IsTrue, count_by, is_some, leb, length, option_map, position, slice_get};
+ghost use Rattle.std.specs.Prelude.{◌≡◌, ◌+◌, ◌<◌, ◌≤◌, ◌^◌, OnOk, OnErr, Some, IsTrue, [], count_by, is_some, leb, length, option_map, position, slice_get};
 ghost use Rattle.std.specs.Option.{option_copied};
 ghost use Rattle.flat_model.specs.Pages.{page_of};
 ghost use Rattle.flat_model.specs.Rows.{allows, is_at, put_bytes, with_changed, with_put};
 ghost use Rattle.flat_model.specs.Checks.{Opens};
 ghost use Rattle.std.specs.FinMap.Entries.{is_sorted};
-ghost use Rattle.cl_types.specs.Places.{place_cmp};
+ghost use Rattle.cl_types.specs.Places.{is_bucket_count, place_cmp};
 ghost use Rattle.flat_model.specs.State.{page_at, used};
 ghost use Rattle.flat_model.specs.Step.{is_out_of_pages, is_range, unmapped};
 
@@ -56,6 +56,27 @@ fn pages_with_bytes(map: &[(Place, MappedPage)]) -> usize
 }
 
 impl Flat {
+    /// A machine with no page mapped.
+    pub(crate) fn empty(
+        alloc: Global,
+        objects: Vec<KvStore>,
+        held: Vec<Place>,
+        pages: u64,
+        buckets: u32,
+    ) -> Flat
+        requires { IsTrue (is_bucket_count buckets) }
+        ensures { result ≡ record { map = []; ranges = []; objects = objects.items; held = held.items; pages = pages; buckets = buckets } }
+    {
+        Flat {
+            map: Vec::new(alloc),
+            ranges: Vec::new(alloc),
+            objects,
+            held,
+            pages,
+            buckets,
+        }
+    }
+
     /// The page of an address, where it is mapped for the process.
     pub(crate) fn page(&self, pid: u16, addr: Addr) -> Option<&MappedPage>
         requires { addr.0 < 2 ^ 28 }

@@ -9,7 +9,9 @@
 
 pub mod flat;
 pub mod open_fault;
-mod check;
+pub mod opening;
+mod buckets;
+pub mod check;
 pub mod laws;
 mod need;
 mod page;

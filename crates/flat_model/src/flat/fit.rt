@@ -6,6 +6,7 @@ ghost use Rattle.std.specs.Ordering.{eq_by_cmp};
 ghost use Rattle.cl_types.specs.Places.{home_of, homes_at, is_bucket_count, place_cmp};
 ghost use Rattle.flat_model.specs.State.{fits, is_mapped, least, load, places, places_of};
 
+use crate::buckets::{home_at, places_at};
 use crate::flat::Flat;
 use crate::page::MappedPage;
 use crate::rows::{Place, is_same};
@@ -24,28 +25,12 @@ fn is_there(held: &[Place], place: Place) -> bool
     held.iter().any(|other| is_same(place, *other))
 }
 
-fn home_at(buckets: u32, place: Place) -> u32
-    requires { IsTrue (is_bucket_count buckets) }
-    ensures { result ≡ home_of buckets place }
-{
-    home(Space16(place.0), Vpn(place.1), buckets)
-}
-
 fn keys_at(map: &[(Place, MappedPage)], buckets: u32, bucket: u32) -> usize
     requires { IsTrue (is_bucket_count buckets) }
     ensures { result ≡ count_by (λ entry. home_of buckets entry.0 == bucket) map.now }
 {
     map.iter()
         .filter(|entry| home_at(buckets, entry.0) == bucket)
-        .count()
-}
-
-fn places_at(held: &[Place], buckets: u32, bucket: u32) -> usize
-    requires { IsTrue (is_bucket_count buckets) }
-    ensures { result ≡ homes_at buckets bucket held.now }
-{
-    held.iter()
-        .filter(|place| home_at(buckets, **place) == bucket)
         .count()
 }
 
