@@ -1,7 +1,8 @@
 -- A test of every bucket is one of the buckets of the pages alone.
-use Rattle.std.proofs.Common.{◌≡◌, ◌⊎◌, inl, inr, ⊎_elim, ℕ, zero, suc, ◌+◌, ◌*◌, ◌/◌, ◌%◌, ◌^◌, ◌<◌, ◌≤◌, ◌==◌, ◌&&◌, nat_lt, nat_le, Bool, true, false, cond, List, [], ◌∷◌, refl, sym, ap, subst, ◌∙◌, arith}
+use Rattle.std.proofs.Common.{◌≡◌, ◌⊎◌, inl, inr, ⊎_elim, ℕ, zero, suc, ◌+◌, ◌*◌, ◌/◌, ◌%◌, ◌^◌, ◌<◌, ◌≤◌, ◌==◌, ◌&&◌, leb, nat_lt, nat_le, Bool, true, false, cond, List, [], ◌∷◌, refl, sym, ap, subst, ◌∙◌, arith}
 use Rattle.std.specs.List.{list_all, list_any, range_with_len}
 use Rattle.std.specs.Cmp.{both_ways}
+use Rattle.std.proofs.lemmas.Bool.{cases_lt}
 use Rattle.std.proofs.lemmas.Bool.Decides.{nat_tests}
 use Rattle.std.proofs.lemmas.List.Sums.{sum_by-cons}
 use Rattle.std.proofs.Math.Nat.{div-lt_iff_lt-mul, mod-lt}
@@ -40,10 +41,10 @@ each : {A : Type 0} (test : A → Bool) (xs : List A) → ((x : A) → test x �
 each test [] passes = refl
 each test (x ∷ xs) passes = ap (λ b. b && list_all test xs) (passes x) ∙ each test xs passes
 
-first_of_both : (a b : Bool) → (a && b) ≡ true → a ≡ true
+pub first_of_both : (a b : Bool) → (a && b) ≡ true → a ≡ true
 first_of_both a b both = grind arith
 
-second_of_both : (a b : Bool) → (a && b) ≡ true → b ≡ true
+pub second_of_both : (a b : Bool) → (a && b) ≡ true → b ≡ true
 second_of_both a b both = grind arith
 
 in_range : (test : ℕ → Bool) (first n k : ℕ) → list_all test (range_with_len first n) ≡ true → first ≤ k → k < first + n → test k ≡ true
@@ -82,3 +83,18 @@ module _ (b : ℕ) (test : ℕ → ℕ → Bool) (empty : (home : ℕ) → test 
     where
       buckets : (first n : ℕ) → list_all of_page pages ≡ true → list_all of_bucket (range_with_len first n) ≡ true
       buckets first n all = each of_bucket (range_with_len first n) (λ home. bucket_passes home all)
+
+-- ---- no bucket with more than four
+none_past : (b home : ℕ) (pages : List Place) → is_bucket_count b ≡ true → b ≤ home → homes_at b home pages ≡ 0
+none_past b home [] count past = refl
+none_past b home (page ∷ pages) count past =
+    let apart : home_of b page < b = home_below b page count in
+    let other : (home_of b page == home) ≡ false = grind (arith, nat_tests) in
+    sum_by-cons (λ place. cond (home_of b place == home) 1 0) page pages ∙ ap (λ t. cond t 1 0 + homes_at b home pages) other ∙ omega (arith, none_past b home pages count past)
+
+-- what was tested of each bucket holds of each number
+pub four_everywhere : (b : ℕ) (pages : List Place) (home : ℕ) → is_bucket_count b ≡ true → list_all (λ h. leb (homes_at b h pages) 4) (range_with_len 0 b) ≡ true → homes_at b home pages ≤ 4
+four_everywhere b pages home count all = ⊎_elim
+    (λ below. let passes : leb (homes_at b home pages) 4 ≡ true = in_range (λ h. leb (homes_at b h pages) 4) 0 b home all (omega arith) (omega (arith, below)) in grind (arith, nat_tests))
+    (λ past. omega (arith, none_past b home pages count past))
+    (cases_lt home b)

@@ -1,10 +1,13 @@
 -- Where a range fits: tests over mapped and held places, and over the pages of a range.
-use Rattle.std.proofs.Common.{◌≡◌, ℕ, zero, suc, ◌+◌, ◌-◌, ◌<◌, ◌≤◌, ◌==◌, ◌||◌, ◌&&◌, Bool, true, false, cond, List, [], ◌∷◌, ◌++◌, map, refl, sym, ap, ◌∙◌, arith}
+use Rattle.std.proofs.Common.{◌≡◌, ℕ, zero, suc, ◌+◌, ◌-◌, ◌<◌, ◌≤◌, ◌==◌, ◌||◌, ◌&&◌, leb, Bool, true, false, cond, List, [], ◌∷◌, ◌++◌, map, refl, sym, ap, ◌∙◌, arith}
 use Rattle.std.specs.List.{list_any, list_all, count_by, sum_by, range_with_len}
 use Rattle.std.specs.Ordering.{eq_by_cmp}
 use Rattle.std.proofs.lemmas.List.Folds.{list_any-append}
 use Rattle.std.proofs.lemmas.List.Sums.{sum_by-append, sum_by-cons}
-use Rattle.cl_types.specs.Places.{Place, place_cmp, home_of, homes_at}
+use Rattle.cl_types.specs.Places.{Place, place_cmp, home_of, homes_at, is_bucket_count}
+use Rattle.std.proofs.lemmas.Bool.Decides.{nat_tests}
+use Rattle.flat_model.specs.Rows.{AreFourAtMost, has_room_at}
+use Rattle.flat_model.proofs.BucketLemmas.{each_bucket}
 use Rattle.flat_model.specs.State.{FlatState, Page, is_mapped, load, places, places_of}
 
 any_mapped : {A B : Type 0} (f : A → B) (test : B → Bool) (xs : List A) → list_any test (map f xs) ≡ list_any (λ x. test (f x)) xs
@@ -77,3 +80,22 @@ module _ (test : ℕ → Bool) (n i : ℕ) (below : i < n) where
 
   pub all_numbers_fail : test i ≡ false → list_all test (range_with_len i (n - i)) ≡ false
   all_numbers_fail fails = all_fails test _ _ _ numbers_next fails
+
+-- ---- the buckets of the new pages are enough
+-- the bucket has room for so many more pages
+abbrev has_room_more : FlatState → ℕ → ℕ → Bool
+has_room_more s home more = leb (load s home + more) 4
+
+pub buckets_of_pages : (s : FlatState) (pages : List Place) → is_bucket_count s.buckets ≡ true → AreFourAtMost s.buckets (places s)
+    → list_all (has_room_at s pages) pages ≡ list_all (λ home. leb (load s home + homes_at s.buckets home pages) 4) (range_with_len 0 s.buckets)
+buckets_of_pages s pages count four = sym (each_bucket s.buckets (has_room_more s) empty pages count) where
+  empty : (home : ℕ) → has_room_more s home 0 ≡ true
+  empty home = let few : load s home ≤ 4 = four home in grind (arith, nat_tests)
+
+-- the bucket of a page, by what was counted there
+pub room_is : (s : FlatState) (pages : List Place) (page : Place) (bucket mapped held more : ℕ) (result : Bool) → bucket ≡ home_of s.buckets page
+    → mapped ≡ count_by (λ entry. home_of s.buckets entry.0 == bucket) s.map → held ≡ homes_at s.buckets bucket s.held → more ≡ homes_at s.buckets bucket pages
+    → result ≡ leb (mapped + held + more) 4 → result ≡ has_room_at s pages page
+room_is s pages page bucket mapped held more result home a b c is =
+    let all : mapped + held + more ≡ load s bucket + homes_at s.buckets bucket pages = omega (arith, a, b, c, load_is s bucket) in
+    is ∙ ap (λ n. leb n 4) all ∙ ap (λ h. leb (load s h + homes_at s.buckets h pages) 4) home

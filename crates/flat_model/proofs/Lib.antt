@@ -3,6 +3,7 @@ pub mod ChangeLemmas
 pub mod CheckLemmas
 pub mod EntryLemmas
 pub mod FitLemmas
+pub mod FourLemmas
 pub mod FreshLemmas
 pub mod KeyLemmas
 pub mod LeastLemmas

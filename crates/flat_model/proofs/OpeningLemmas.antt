@@ -15,6 +15,8 @@ use Rattle.flat_model.specs.declared.open_fault.OpenFault.{OpenFault}
 use Rattle.flat_model.specs.declared.open_fault.OpenFault.TheVariants.{NoRoom}
 use Rattle.flat_model.specs.Opening.{held_by, has_room, first_without_room, pages_at, room_fault}
 use Rattle.flat_model.specs.State.{held_from}
+use Rattle.flat_model.specs.Rows.{AreFourAtMost}
+use Rattle.flat_model.proofs.BucketLemmas.{four_everywhere, second_of_both}
 use Rattle.flat_model.proofs.FitLemmas.{numbers_next}
 
 -- ---- good numbers
@@ -157,6 +159,12 @@ module _ (c : NodeConfig) (k pages : ℕ) (old new tested : List Place) (has : B
 
   pub fault_added : Added c k pages old new tested has → has ≡ false → lacking_from c k ≡ first_without_room c → room_fault c ≡ Some (NoRoom k pages)
   fault_added a failed first = no_room c k a.within (tested_room a ∙ failed) first ∙ ap (λ (n : ℕ). Some (NoRoom k n)) (sym a.count)
+
+-- pages that have room bring no bucket above four
+pub four_added : (c : NodeConfig) (new tested : List Place) (has : Bool) → bad_number_of c ≡ None → tested ≡ new → has ≡ has_room c tested → has ≡ true → AreFourAtMost c.buckets new
+four_added c new tested has none same test passed home =
+    let room : has_room c new ≡ true = ap (has_room c) (sym same) ∙ sym test ∙ passed in
+    four_everywhere c.buckets new home (good_buckets c none) (second_of_both (leb (length new) c.pages) _ room)
 
 -- ---- numbers one after another
 range_push : (first n : ℕ) → range_with_len first (suc n) ≡ range_with_len first n ++ (first + n) ∷ []

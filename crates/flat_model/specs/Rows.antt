@@ -1,8 +1,8 @@
 -- What the plain lists of a flat state stand for.
-use Rattle.std.specs.Prelude.{ℕ, ◌≡◌, ◌==◌, ◌↔◌, Bool, ◌&&◌, List, Option, Some, None, Result, Ok, Err, slice_get, if◌then◌else◌, IsTrue}
+use Rattle.std.specs.Prelude.{ℕ, ◌+◌, ◌≤◌, leb, ◌++◌, map, ◌≡◌, ◌==◌, ◌↔◌, Bool, ◌&&◌, List, Option, Some, None, Result, Ok, Err, slice_get, if◌then◌else◌, IsTrue}
 use Rattle.std.specs.Ordering.{eq_by_cmp}
 use Rattle.std.specs.FinMap.Entries.{is_sorted, put}
-use Rattle.cl_types.specs.Places.{Place, place_cmp, is_bucket_count}
+use Rattle.cl_types.specs.Places.{Place, place_cmp, home_of, homes_at, is_bucket_count}
 use Rattle.cl_types.specs.declared.call.Perm.{Perm}
 use Rattle.flat_model.specs.declared.need.Need.{Need}
 use Rattle.flat_model.specs.declared.need.Need.TheVariants.{Write, Change}
@@ -11,12 +11,24 @@ use Rattle.cl_types.specs.declared.reply.Refusal.{Refusal}
 use Rattle.cl_types.specs.declared.reply.Reply.{Reply}
 use Rattle.flat_model.specs.Pages.{page_of}
 use Rattle.flat_model.specs.Step.{Outcome, may_write, may_change, on_bytes, refused}
-use Rattle.flat_model.specs.State.{FlatState, Page, bytes_of}
+use Rattle.flat_model.specs.State.{FlatState, Page, bytes_of, load}
 use Rattle.cl_types.specs.Bytes.{with_bytes}
 
 -- the entry is that of this place
 abbrev pub is_at : {V : Type 0} → Place → Place × V → Bool
 is_at place entry = eq_by_cmp place_cmp place entry.0
+
+-- the places of entries
+abbrev pub keys : {V : Type 0} → List (Place × V) → List Place
+keys entries = map (λ entry. entry.0) entries
+
+-- no bucket has more than four of these pages
+abbrev pub AreFourAtMost : ℕ → List Place → Type 0
+AreFourAtMost buckets places = (home : ℕ) → homes_at buckets home places ≤ 4
+
+-- the bucket of a page has room for these pages
+abbrev pub has_room_at : FlatState → List Place → Place → Bool
+has_room_at s pages page = leb (load s (home_of s.buckets page) + homes_at s.buckets (home_of s.buckets page) pages) 4
 
 -- the permission is enough for what is to be done
 abbrev pub allows : Need → Perm → Bool
@@ -24,11 +36,13 @@ allows Write perm = may_write perm
 allows Change perm = may_change perm
 
 -- what holds of the lists at every moment
-pub record AreInOrder (pages : List (Place × Page)) (ranges : List (Place × ℕ)) (buckets : ℕ) : Type 0 where
+pub record AreInOrder (pages : List (Place × Page)) (ranges : List (Place × ℕ)) (held : List Place) (buckets : ℕ) : Type 0 where
   pub mapped : IsTrue (is_sorted place_cmp pages)
   pub allocated : IsTrue (is_sorted place_cmp ranges)
   -- so each page has a home
   pub homes : IsTrue (is_bucket_count buckets)
+  -- so only the buckets of new pages can come to hold more
+  pub four : AreFourAtMost buckets (keys pages ++ held)
 
 -- the page with bytes put in at a place
 abbrev pub with_put : ℕ → List ℕ → Page → Page

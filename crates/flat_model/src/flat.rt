@@ -3,7 +3,7 @@
 ghost use Rattle.std.specs.Prelude.{◌≡◌, ◌+◌, ◌<◌, ◌≤◌, ◌^◌, OnOk, OnErr, Some, IsTrue, [], count_by, is_some, leb, length, option_map, position, slice_get};
 ghost use Rattle.std.specs.Option.{option_copied};
 ghost use Rattle.flat_model.specs.Pages.{page_of};
-ghost use Rattle.flat_model.specs.Rows.{allows, is_at, put_bytes, with_changed, with_put};
+ghost use Rattle.flat_model.specs.Rows.{AreFourAtMost, allows, is_at, put_bytes, with_changed, with_put};
 ghost use Rattle.flat_model.specs.Checks.{Opens};
 ghost use Rattle.std.specs.FinMap.Entries.{is_sorted};
 ghost use Rattle.cl_types.specs.Places.{is_bucket_count, place_cmp};
@@ -46,7 +46,7 @@ impl Model for Flat {
 
     ghost view = { λ f. record { map = f.map.items; ranges = f.ranges.items; objects = f.objects.items; held = f.held.items; pages = f.pages; buckets = f.buckets } };
 
-    ghost invariant = { λ f. AreInOrder f.map.items f.ranges.items f.buckets };
+    ghost invariant = { λ f. AreInOrder f.map.items f.ranges.items f.held.items f.buckets };
 }
 
 fn pages_with_bytes(map: &[(Place, MappedPage)]) -> usize
@@ -64,7 +64,8 @@ impl Flat {
         pages: u64,
         buckets: u32,
     ) -> Flat
-        requires { IsTrue (is_bucket_count buckets) }
+        requires homes { IsTrue (is_bucket_count buckets) }
+        requires four { AreFourAtMost buckets held.items }
         ensures { result ≡ record { map = []; ranges = []; objects = objects.items; held = held.items; pages = pages; buckets = buckets } }
     {
         Flat {

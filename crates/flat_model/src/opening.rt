@@ -6,6 +6,7 @@ ghost use Rattle.cl_types.specs.Config.{bad_number_of, first_bad, judged_offload
 ghost use Rattle.cl_types.specs.Places.{home_of, homes_at, is_bucket_count};
 ghost use Rattle.flat_model.specs.Objects.{empty_object};
 ghost use Rattle.flat_model.specs.Opening.{has_room, open_fault, pages_at, room_fault};
+ghost use Rattle.flat_model.specs.Rows.{AreFourAtMost};
 ghost use Rattle.flat_model.specs.State.{held_from, opening};
 
 use crate::flat::Flat;
@@ -80,6 +81,7 @@ fn held_pages(alloc: Global, config: &NodeConfig) -> Result<Vec<Place>, OpenFaul
     requires { bad_number_of config.now ≡ None }
     ensures pages { IfOk result (λ held. held.items ≡ held_from 0 config.now.offloads) }
     ensures room { OnOk result (room_fault config.now ≡ None) }
+    ensures four { IfOk result (λ held. AreFourAtMost config.now.buckets held.items) }
     ensures fault { IfErr result (λ fault. (fault ≡ OpenFault.NoMemory) ⊎ (room_fault config.now ≡ Some fault)) }
 {
     let mut held = Vec::new(alloc);

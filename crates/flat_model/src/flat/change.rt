@@ -4,8 +4,8 @@ ghost use Rattle.std.specs.Prelude.{◌≡◌, ◌+◌, ◌<◌, ◌≤◌, ◌^
 ghost use Rattle.std.specs.FinMap.Entries.{is_sorted};
 ghost use Rattle.cl_types.specs.Places.{place_cmp};
 ghost use Rattle.flat_model.specs.Pages.{page_of};
-ghost use Rattle.flat_model.specs.Rows.{put_bytes, with_changed, with_put};
-ghost use Rattle.flat_model.specs.State.{places_of};
+ghost use Rattle.flat_model.specs.Rows.{keys, put_bytes, with_changed, with_put};
+ghost use Rattle.flat_model.specs.State.{fits, places, places_of};
 ghost use Rattle.flat_model.specs.Step.{mapped, unmapped, with_fresh};
 
 use crate::flat::Flat;
@@ -27,6 +27,7 @@ fn put_in_row(
     requires entry { i < length map.old.items }
     requires within { at + length bytes.now ≤ 4096 }
     ensures put { OnOk result (map.new.items ≡ with_changed (with_put at bytes.now) (slice_get map.old.items i) map.old.items) }
+    ensures keys { keys map.new.items ≡ keys map.old.items }
     ensures order { IsTrue (is_sorted place_cmp map.new.items) }
     ensures unchanged { OnErr result (map.new.items ≡ map.old.items) }
 {
@@ -79,7 +80,7 @@ impl Flat {
 
     /// Maps a range of fresh pages. Without memory all stays as it was.
     pub(crate) fn map(&mut self, pid: u16, start: u16, n: u16, perm: Perm) -> Result<(), NoMemory>
-        requires { start + n ≤ 65536 }
+        requires { IsTrue (fits self.old.buckets (places self.old) pid start n) }
         ensures mapped { OnOk result (self.new ≡ mapped self.old pid start n perm) }
         ensures unchanged { OnErr result (self.new ≡ self.old) }
     {

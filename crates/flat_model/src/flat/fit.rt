@@ -4,6 +4,7 @@ ghost use Rattle.std.specs.Prelude.{◌≡◌, ◌+◌, ◌==◌, ◌<◌, ◌�
 ghost use Rattle.std.specs.List.{list_all, list_any, range_with_len};
 ghost use Rattle.std.specs.Ordering.{eq_by_cmp};
 ghost use Rattle.cl_types.specs.Places.{home_of, homes_at, is_bucket_count, place_cmp};
+ghost use Rattle.flat_model.specs.Rows.{has_room_at};
 ghost use Rattle.flat_model.specs.State.{fits, is_mapped, least, load, places, places_of};
 
 use crate::buckets::{home_at, places_at};
@@ -96,14 +97,30 @@ impl Flat {
         places_at(&self.held, self.buckets, bucket)
     }
 
-    // Whether the bucket has room for these pages of a process too.
-    #[tactic(auto, using(crate::proofs::FitLemmas::load_is))]
-    fn has_room(&self, bucket: u32, pid: u16, start: u16, n: u16) -> bool
-        requires { start + n ≤ 65536 }
-        ensures { result ≡ leb (load self.now bucket + homes_at self.now.buckets bucket (places_of pid start n)) 4 }
+    fn home(&self, page: Place) -> u32
+        ensures { result ≡ home_of self.now.buckets page }
     {
-        let more = pages_at(self.buckets, bucket, pid, start, n);
-        is_up_to_four(self.mapped_at(bucket), self.held_at(bucket), more)
+        home_at(self.buckets, page)
+    }
+
+    fn new_at(&self, bucket: u32, pid: u16, start: u16, n: u16) -> usize
+        requires { start + n ≤ 65536 }
+        ensures { result ≡ homes_at self.now.buckets bucket (places_of pid start n) }
+    {
+        pages_at(self.buckets, bucket, pid, start, n)
+    }
+
+    // Whether the bucket of a page has room for these pages of a process.
+    fn has_room(&self, page: Place, pid: u16, start: u16, n: u16) -> bool
+        requires { start + n ≤ 65536 }
+        ensures { result ≡ has_room_at self.now (places_of pid start n) page }
+    {
+        let bucket = self.home(page);
+        is_up_to_four(
+            self.mapped_at(bucket),
+            self.held_at(bucket),
+            self.new_at(bucket, pid, start, n),
+        )
     }
 
     fn are_free(&self, pid: u16, start: u16, n: u16) -> bool
@@ -118,17 +135,25 @@ impl Flat {
         true
     }
 
-    fn have_room(&self, pid: u16, start: u16, n: u16) -> bool
+    fn has_room_for_each(&self, pid: u16, start: u16, n: u16) -> bool
         requires { start + n ≤ 65536 }
-        ensures { result ≡ list_all (λ bucket. leb (load self.now bucket + homes_at self.now.buckets bucket (places_of pid start n)) 4) (range_with_len 0 self.now.buckets) }
+        ensures { result ≡ list_all (has_room_at self.now (places_of pid start n)) (places_of pid start n) }
     {
-        let buckets = self.buckets;
-        for bucket in 0..buckets {
-            if !self.has_room(bucket, pid, start, n) {
+        for i in 0..n {
+            if !self.has_room((pid, start + i), pid, start, n) {
                 return false;
             }
         }
         true
+    }
+
+    // Whether each bucket has room. No bucket has more than four pages yet, so those of the new pages are enough.
+    fn have_room(&self, pid: u16, start: u16, n: u16) -> bool
+        requires { start + n ≤ 65536 }
+        ensures { result ≡ list_all (λ home. leb (load self.now home + homes_at self.now.buckets home (places_of pid start n)) 4) (range_with_len 0 self.now.buckets) }
+    {
+        let _ = &self.buckets;
+        self.has_room_for_each(pid, start, n)
     }
 
     /// Whether so many pages fit at this start.

@@ -1,5 +1,5 @@
 use Rattle.std.proofs.Common.{inr, arith}
-use Rattle.flat_model.proofs.OpeningLemmas.{Added, fault_added, held_added, room_added}
+use Rattle.flat_model.proofs.OpeningLemmas.{Added, fault_added, four_added, held_added, room_added}
 use Rattle.flat_model.proofs.opening.held_pages.Goals as goal
 
 pub returns-then-not-fit-clause-fault : goal.returns-then-not-fit-clause-fault
@@ -23,6 +23,7 @@ loop-k-preserved c =
       test = c.fit.ensures;
     } in
     record {
+      four = four_added c.args.config.now c.add_pages.new.held.items c.deref.result.now c.fit.result c.requires c.deref.ensures.value c.fit.ensures c.if-not-fit.false;
       held = held_added _ _ _ _ _ _ _ added;
       room = room_added _ _ _ _ _ _ _ added c.if-not-fit.false c.loop-k.invariant.room;
     }
