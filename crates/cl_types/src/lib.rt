@@ -11,6 +11,7 @@ pub mod call;
 pub mod config;
 pub mod frame;
 pub mod items;
+pub mod limits;
 pub mod line;
 pub mod numbers;
 pub mod page;

@@ -1,6 +1,7 @@
 -- Which configurations open.
 use Rattle.std.specs.Prelude.{ℕ, ◌+◌, Bool, ◌&&◌, not, leb, List, length, take, Option, Some, None, option_map, find, slice_get}
 use Rattle.std.specs.List.{list_all, range_with_len}
+use Rattle.cl_types.specs.declared.limits.TheConstants.{BUCKET_PAGES}
 use Rattle.cl_types.specs.Config.{bad_number_of, offload_pages}
 use Rattle.cl_types.specs.Places.{Place, homes_at}
 use Rattle.cl_types.specs.declared.config.Field.{Field}
@@ -17,7 +18,7 @@ held_by c k = held_from 0 (take k c.offloads)
 -- so many pages go into the node, at most four to a bucket
 abbrev pub has_room : NodeConfig → List Place → Bool
 has_room c held =
-    leb (length held) c.pages && list_all (λ home. leb (homes_at c.buckets home held) 4) (range_with_len 0 c.buckets)
+    leb (length held) c.pages && list_all (λ home. leb (homes_at c.buckets home held) BUCKET_PAGES) (range_with_len 0 c.buckets)
 
 -- the first offload with which there is no room
 abbrev pub first_without_room : NodeConfig → Option ℕ

@@ -3,6 +3,7 @@ use Rattle.std.specs.Prelude.{ℕ, zero, suc, ◌+◌, Bool, true, false, ◌&&�
 use Rattle.std.specs.List.{list_all, list_any, range_with_len}
 use Rattle.std.specs.Ordering.{eq_by_cmp}
 use Rattle.std.specs.FinMap.Entries.{find}
+use Rattle.cl_types.specs.declared.limits.TheConstants.{BUCKET_PAGES, SPACE_PAGES}
 use Rattle.cl_types.specs.Bytes.{fresh_bytes}
 use Rattle.cl_types.specs.Config.{offload_pages}
 use Rattle.cl_types.specs.Places.{Place, place_cmp, homes_at}
@@ -77,9 +78,9 @@ is_mapped places place = list_any (eq_by_cmp place_cmp place) places
 -- hold more than four.
 abbrev pub fits : ℕ → List Place → ℕ → ℕ → ℕ → Bool
 fits buckets places pid start n =
-    leb 1 start && leb (start + n) 65536
+    leb 1 start && leb (start + n) SPACE_PAGES
     && list_all (λ place. not (is_mapped places place)) (places_of pid start n)
-    && list_all (λ home. leb (homes_at buckets home places + homes_at buckets home (places_of pid start n)) 4) (range_with_len 0 buckets)
+    && list_all (λ home. leb (homes_at buckets home places + homes_at buckets home (places_of pid start n)) BUCKET_PAGES) (range_with_len 0 buckets)
 
 -- the least start that fits, of so many from this one on
 abbrev pub least_from : ℕ → List Place → ℕ → ℕ → ℕ → ℕ → Option ℕ

@@ -3,6 +3,7 @@ use Rattle.std.specs.Prelude.{ℕ, ◌+◌, ◌*◌, ◌≡◌, ◌==◌, Bool, 
 use Rattle.std.specs.Int.{to_le_bytes, w64}
 use Rattle.std.specs.FinMap.Entries.{find, put, where_key}
 use Rattle.std.specs.Ordering.{eq_by_cmp}
+use Rattle.cl_types.specs.declared.limits.TheConstants.{PAGE_BYTES}
 use Rattle.cl_types.specs.Bytes.{bytes_at, with_bytes}
 use Rattle.cl_types.specs.Places.{Place, place_cmp}
 use Rattle.cl_types.specs.declared.numbers.Addr.{Addr}
@@ -63,7 +64,7 @@ unmapped s pid start n = record s {
 
 abbrev pub alloc_at : FlatState → ℕ → ℕ → Perm → Option ℕ → Outcome
 alloc_at s pid n perm None = refused s NoRange
-alloc_at s pid n perm (Some start) = record { reply = At (record { 0 = start * 4096 }); state = mapped s pid start n perm }
+alloc_at s pid n perm (Some start) = record { reply = At (record { 0 = start * PAGE_BYTES }); state = mapped s pid start n perm }
 
 abbrev pub alloc : FlatState → ℕ → ℕ → Perm → Outcome
 alloc s pid n perm = alloc_at s pid n perm (least s.buckets (places s) pid n)

@@ -1,0 +1,31 @@
+-- What a wire and a clock give to the loops that serve a node and drive a client.
+use Rattle.std.specs.Prelude.{ℕ, Bool, true, false, List, [], ◌∷◌}
+
+-- ---- a clock: its answers still to come, and the one that it repeats after them
+pub record Clock : Type 0 where
+  pub answers : List ℕ
+  pub repeats : ℕ
+
+abbrev pub answer_of : Clock → ℕ
+answer_of clock = elim clock.answers [ [] ↦ clock.repeats | n ∷ ns ↦ n ]
+
+abbrev pub after_answer : Clock → Clock
+after_answer clock = record clock { answers = elim clock.answers [ [] ↦ [] | n ∷ ns ↦ ns ] }
+
+-- ---- a wire: what each receiving gives; where a datagram comes from is a value of any type
+pub data Received (Peer : Type 0) : Type 0 where
+  Datagram : (bytes : List ℕ) → (from : Peer) → Received Peer
+  NothingCame : Received Peer
+  ReceivingFailed : Received Peer
+
+-- and whether each sending to come goes through; after the list each does
+abbrev pub Sendings : Type 0
+Sendings = List Bool
+
+abbrev pub goes_through : Sendings → Bool
+goes_through [] = true
+goes_through (sent ∷ sendings) = sent
+
+abbrev pub after_sending : Sendings → Sendings
+after_sending [] = []
+after_sending (sent ∷ sendings) = sendings
