@@ -39,6 +39,9 @@ pub const LAST_RESEND: u64 = 300;
 /// The age at which a part is given up, and below which a recorded reply is young.
 pub const SPAN: u64 = 400;
 
+/// The greatest number of clients of a schedule.
+pub const MOST_CLIENTS: usize = 64;
+
 /// After how many turns in a row with nothing to show a driven client is stalled.
 pub const STALL_TURNS: u32 = 1_000_000;
 

@@ -1,5 +1,5 @@
 -- The state of a client, read off the lines of an account.
-use Rattle.std.specs.Prelude.{ℕ, ◌==◌, Bool, true, false, ◌&&◌, not, List, [], ◌∷◌, length, map, replicate, filter, filter_map, flat_map, count_by, Option, Some, None, is_some, if◌then◌else◌, find, option_map, option_and_then, unwrap_or}
+use Rattle.std.specs.Prelude.{ℕ, zero, suc, slice_get, ◌==◌, Bool, true, false, ◌&&◌, not, List, [], ◌∷◌, length, map, replicate, filter, filter_map, flat_map, count_by, Option, Some, None, is_some, if◌then◌else◌, find, option_map, option_and_then, unwrap_or}
 use Rattle.std.specs.List.{list_any, concat, enumerate_from}
 use Rattle.cl_types.specs.declared.numbers.ClientNo.{ClientNo}
 use Rattle.cl_types.specs.declared.call.Call.{Call}
@@ -13,8 +13,9 @@ use Rattle.cl_types.specs.declared.schedule.Event.TheVariants as event
 use Rattle.cl_types.specs.declared.line.Did.{Did}
 use Rattle.cl_types.specs.declared.line.Did.TheVariants as did
 use Rattle.cl_types.specs.declared.reply.Part.{Part}
+use Rattle.cl_types.specs.declared.request.Request.{Request}
 use Rattle.cl_types.specs.Bytes.{zeros}
-use Rattle.flat_model.specs.Cut.{Ending, Replied, GivenUp}
+use Rattle.flat_model.specs.Cut.{cut, Ending, Replied, GivenUp}
 use Rattle.flat_model.specs.Order.{is_fence}
 use Rattle.flat_model.specs.Account.{Account, Line, Load, Asks, Answers, frame_at}
 use Rattle.flat_model.specs.Client.{Standing, Unsent, InFlight, Over, ClientState, ClientCall, same_client, same_part, call_standing, finished}
@@ -53,6 +54,18 @@ issued a c = filter_map (λ line. issued_on c line.event line.texts) a.lines
 -- each with its number
 abbrev pub numbered : Account → ClientNo → List (ℕ × Call)
 numbered a c = enumerate_from 1 (issued a c)
+
+-- the call of a number, from 1
+abbrev pub call_at : List Call → ℕ → Option Call
+call_at calls zero = None
+call_at calls (suc n) = slice_get calls n
+
+abbrev pub part_request : Part → Call → Option Request
+part_request p k = slice_get (cut k) p.part
+
+-- the request of a part of an issued call, by the number of the call and the part's place in it
+abbrev pub request_of_part : Account → ClientNo → Part → Option Request
+request_of_part a c p = option_and_then (part_request p) (call_at (issued a c) p.call.0)
 
 -- ---- what the texts say of one part
 abbrev pub texts_on : {A : Type 0} → (ℕ → Did → Option A) → Line → List A

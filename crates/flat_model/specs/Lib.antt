@@ -20,3 +20,12 @@ pub mod Nodes
 pub mod Outside
 pub mod Serving
 pub mod Driving
+pub mod Text
+pub mod Texts
+pub mod Words
+pub mod Grammar
+pub mod HistoryGrammar
+pub mod Commands
+pub mod Properties
+pub mod Generated
+pub mod Summaries

@@ -1,0 +1,45 @@
+-- Text as lists of bytes: words, lines, and the lines and words of an input.
+use Rattle.std.specs.Prelude.{ℕ, ◌==◌, Bool, true, false, List, [], ◌∷◌, ◌++◌, bytes_eq}
+use Rattle.std.specs.List.{slice_split}
+
+abbrev pub Text : Type 0
+Text = List ℕ
+
+abbrev pub is_text : Text → Text → Bool
+is_text = bytes_eq
+
+abbrev pub is_empty : {A : Type 0} → List A → Bool
+is_empty [] = true
+is_empty (x ∷ xs) = false
+
+-- ---- to write
+-- words with one space between each two
+abbrev pub words : List Text → Text
+words [] = []
+words (w ∷ []) = w
+words (w ∷ v ∷ ws) = w ++ 32 ∷ words (v ∷ ws)
+
+abbrev pub line_end : Text
+line_end = 10 ∷ []
+
+-- ---- to read
+-- a line feed at the very end begins no further line
+abbrev pub without_empty_end : List Text → List Text
+without_empty_end [] = []
+without_empty_end ([] ∷ []) = []
+without_empty_end (line ∷ lines) = line ∷ without_empty_end lines
+
+abbrev pub lines_in : List ℕ → List Text
+lines_in bytes = without_empty_end (slice_split (λ b. b == 10) bytes)
+
+abbrev pub words_in : Text → List Text
+words_in line = slice_split (λ b. b == 32) line
+
+abbrev pub first_word : List Text → Text
+first_word [] = []
+first_word (w ∷ ws) = w
+
+-- an empty line or a comment is skipped, and counted
+abbrev pub is_skipped : Text → Bool
+is_skipped [] = true
+is_skipped (b ∷ bs) = b == 35
