@@ -32,6 +32,12 @@ use Rattle.cl_types.specs.declared.line.Did.TheVariants as did
 use Rattle.cl_types.specs.declared.line.EndedCall.{EndedCall}
 use Rattle.cl_types.specs.declared.line.Entry.{Entry}
 use Rattle.cl_types.specs.declared.schedule.Schedule.{Schedule}
+use Rattle.cl_types.specs.declared.schedule.What.{What}
+use Rattle.cl_types.specs.declared.schedule.What.TheVariants as what
+use Rattle.cl_types.specs.declared.config.Field.{Field}
+use Rattle.cl_types.specs.declared.config.Field.TheVariants as number
+use Rattle.flat_model.specs.declared.open_fault.OpenFault.{OpenFault}
+use Rattle.flat_model.specs.declared.open_fault.OpenFault.TheVariants.{BadConfig, NoRoom, NoMemory}
 use Rattle.flat_model.specs.Text.{Text, words, line_end}
 use Rattle.flat_model.specs.Account.{Account, Line}
 use Rattle.flat_model.specs.Events.{account}
@@ -191,3 +197,45 @@ account_text a =
 -- the transcript of a schedule
 abbrev pub transcript : Schedule → Text
 transcript s = s.header ++ account_text (account s.config s.events)
+
+-- ---- the lines of faults
+abbrev pub what_text : What → Text
+what_text what.BadByte = codes "bad byte"
+what_text what.BadSpacing = codes "bad spacing"
+what_text what.NodeExpected = codes "node expected"
+what_text what.ClientExpected = codes "client expected"
+what_text what.OutOfPlace = codes "out of place"
+what_text what.UnknownWord = codes "unknown word"
+what_text what.MissingWord = codes "missing word"
+what_text what.ExtraWord = codes "extra word"
+what_text what.BadNumber = codes "bad number"
+what_text what.BadAddress = codes "bad address"
+what_text what.BadPermission = codes "bad permission"
+what_text what.BadBytes = codes "bad bytes"
+what_text what.UnknownClient = codes "unknown client"
+what_text what.ClientRepeated = codes "client repeated"
+what_text what.TooManyClients = codes "too many clients"
+what_text what.BadLength = codes "bad length"
+what_text what.AFrame = codes "a frame"
+what_text what.EndExpected = codes "end expected"
+what_text what.BadCount = codes "bad count"
+what_text what.BadEntry = codes "bad entry"
+
+-- a bad line of the input, by its number
+abbrev pub fault_line : ℕ × What → Text
+fault_line fault = codes "line " ++ decimal fault.0 ++ codes ": " ++ what_text fault.1 ++ line_end
+
+abbrev pub number_text : Field → Text
+number_text number.Pages = codes "pages"
+number_text number.Buckets = codes "buckets"
+number_text number.Ring = codes "ring"
+number_text number.Retry = codes "retry"
+number_text number.Offloads = codes "offloads"
+number_text number.Records = codes "records"
+
+-- why a node doesn't open; want of memory has no line
+abbrev pub open_fault_line : OpenFault → Text
+open_fault_line (BadConfig field value) = words (codes "bad node:" ∷ number_text field ∷ decimal value ∷ []) ++ line_end
+open_fault_line (NoRoom offload pages) =
+    words (codes "bad node: offload" ∷ decimal offload ∷ codes "pages" ∷ decimal pages ∷ []) ++ line_end
+open_fault_line NoMemory = []
