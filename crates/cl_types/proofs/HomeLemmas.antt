@@ -29,6 +29,7 @@ leading_bits b place count =
     let exact : 2 ^ 32 / b * b ≡ 2 ^ 32 = grind (arith, nat_tests) in
     ap (λ n. hash_of place * b / n) (sym exact) ∙ mul-div-mul_right (hash_of place) (2 ^ 32 / b) some
 
+-- and it is a number of a bucket
 pub leading_bits_below : (b : ℕ) (place : Place) → is_bucket_count b ≡ true → hash_of place * b / 2 ^ 32 < b
 leading_bits_below b place count =
     let all : divides b ≡ true = bucket_count_divides b count in

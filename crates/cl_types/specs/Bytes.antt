@@ -13,6 +13,7 @@ with_bytes at bytes old = take at old ++ bytes ++ drop (at + length bytes) old
 abbrev pub over : {A : Type 0} → List A → List A → List A
 over old new = take (length old) (new ++ drop (length new) old)
 
+-- n bytes that are 0
 abbrev pub zeros : ℕ → List ℕ
 zeros n = replicate n 0
 
