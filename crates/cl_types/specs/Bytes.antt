@@ -1,5 +1,5 @@
 -- Pieces of a list of bytes.
-use Rattle.std.specs.Prelude.{ℕ, ◌+◌, ◌*◌, ◌<◌, ◌≤◌, List, ◌++◌, take, drop, length, replicate}
+use Rattle.std.specs.Prelude.{ℕ, ◌+◌, List, ◌++◌, take, drop, length, replicate}
 
 -- the n bytes from a place on
 abbrev pub bytes_at : ℕ → ℕ → List ℕ → List ℕ
