@@ -5,14 +5,14 @@ use crate::config::Config;
 use crate::items::{Bytes, Items};
 use crate::numbers::{Addr, ClientNo, Pid};
 
-/// Bytes, `times` times over.
+/// Bytes, `times` times over: at most 70,000 in all.
 #[derive(Drop)]
 pub struct Written {
     pub bytes: Bytes,
     pub times: u32,
 }
 
-/// A call, as its line has it.
+/// A call, as its line has it. Its numbers may be out of the ranges of a call, which are judged when it is issued.
 #[derive(Drop)]
 pub enum CallText {
     Alloc {
