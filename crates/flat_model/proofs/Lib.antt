@@ -1,0 +1,4 @@
+mod RowTexts
+mod Rows1
+mod Rows2
+mod Rows3
