@@ -2,3 +2,6 @@ mod RowTexts
 mod Rows1
 mod Rows2
 mod Rows3
+pub mod RunLemmas
+pub mod HistoryLemmas
+mod VectorRows

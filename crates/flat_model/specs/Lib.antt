@@ -29,3 +29,4 @@ pub mod Commands
 pub mod Properties
 pub mod Generated
 pub mod Summaries
+pub mod RunLaws

@@ -7,5 +7,7 @@
 //! their crates.
 #![tactic(auto)]
 
+
 pub mod flat;
 pub mod open_fault;
+pub mod run_laws;
