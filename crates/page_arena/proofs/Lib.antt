@@ -1,2 +1,1 @@
 pub mod ZeroPage
-pub mod Lent

@@ -1,12 +1,13 @@
 //! Pages of 4,096 bytes, by their numbers, in memory that is taken once.
 //!
-//! A contract sees a `PageArena` as the list of its pages, each the list of its bytes. Each page has 4,096 bytes at every
-//! moment, and a call on one page leaves all others. Only `PageArena::create` takes memory.
+//! A contract sees a `PageArena` as the list of its pages, each the list of its bytes. `page` and `page_mut` tell of the
+//! page that is asked for that it has 4,096 bytes. A call on one page leaves all others, and their number stays. Only
+//! `PageArena::create` takes memory.
 //!
 //! Which pages are in use, and who may read or write one, is kept by others.
 #![tactic(auto)]
 
-ghost use Rattle.std.specs.Prelude.{◌≡◌, ◌<◌, length, map, replicate, slice_set, vec_items, IfOk};
+ghost use Rattle.std.specs.Prelude.{◌≡◌, ◌<◌, length, replicate, slice_set, IfOk};
 ghost use Rattle.std.specs.Borrow.{sem};
 ghost use Rattle.page_arena.specs.Arena.{page_at, zero_page};
 
@@ -26,46 +27,31 @@ impl From<AllocError> for NoMemory {
     }
 }
 
-// This many pages of zeros.
-fn zero_pages(alloc: Global, count: u32) -> Result<Vec<Vec<u8>>, AllocError>
-    ensures { IfOk result (λ pages. map vec_items pages.items ≡ replicate count zero_page) }
-{
-    let mut pages = Vec::new(alloc);
-    for _ in 0..count {
-        let mut page = Vec::new(alloc);
-        page.resize(PAGE_BYTES, 0)?;
-        pages.push(page)?;
-    }
-    Ok(pages)
-}
-
 /// Pages of 4,096 bytes, numbered from 0.
 #[derive(Drop)]
 pub struct PageArena {
-    pages: Vec<Vec<u8>>,
+    // In one piece, page after page.
+    pages: Vec<[u8; PAGE_BYTES]>,
 }
 
 impl Model for PageArena {
-    ghost use Rattle.std.specs.Prelude.{List, ℕ, map, vec_items};
+    ghost use Rattle.std.specs.Prelude.{List, ℕ};
 
     ghost Value = { List (List ℕ) };
 
-    ghost view = { λ a. map vec_items a.pages.items };
-
-    ghost use Rattle.page_arena.specs.Arena.{AreWhole};
-
-    ghost invariant = { λ a. AreWhole (map vec_items a.pages.items) };
+    ghost view = { λ a. a.pages.items };
 }
 
 impl PageArena {
     ghost use Rattle.page_arena.specs.Lending.{LendsPage};
 
-    /// This many pages, all bytes zero. `NoMemory` comes where an allocation was refused.
+    /// This many pages, all their bytes zero. `NoMemory` comes where an allocation was refused.
     pub fn create(alloc: Global, pages: u32) -> Result<PageArena, NoMemory>
         ensures { IfOk result (λ arena. arena ≡ replicate pages zero_page) }
     {
-        let pages = zero_pages(alloc, pages)?;
-        Ok(PageArena { pages })
+        let mut zeros = Vec::new(alloc);
+        zeros.resize(pages as usize, [0; PAGE_BYTES])?;
+        Ok(PageArena { pages: zeros })
     }
 
     /// The bytes of a page.
@@ -74,7 +60,7 @@ impl PageArena {
         ensures value { result.now ≡ page_at self.now i }
         ensures size { length result.now ≡ 4096 }
     {
-        self.pages[i as usize].as_slice()
+        &self.pages[i as usize]
     }
 
     /// The bytes of a page, to be written.
@@ -84,6 +70,8 @@ impl PageArena {
         ensures value { result.now ≡ page_at self.old i }
         ensures size { length result.now ≡ 4096 }
     {
+        // The lent bytes don't tell how many they are, and the page does.
+        let _page = self.page(i);
         self.pages[i as usize].as_mut_slice()
     }
 
@@ -92,7 +80,7 @@ impl PageArena {
         requires { i < length self.old }
         ensures { self.new ≡ slice_set self.old i zero_page }
     {
-        self.pages[i as usize].as_mut_slice().fill(0);
+        self.page_mut(i).fill(0);
     }
 }
 
