@@ -22,8 +22,9 @@ impl From<AllocError> for NoMemory {
 pub struct Lists {
     nodes: u32,
     lists: u32,
-    // Node n has the place n. List l has the place `nodes + l`, at which its ring begins and ends, so that an end is
-    // a place like any other. Four nodes, 1 and 3 in list 0, and list 1 empty:   4 -> 1 -> 3 -> 4     5 -> 5
+    // Node n has the place n. List l has the place `nodes + l`, at which its ring begins and ends,
+    // so that an end is a place like any other. Four nodes, 1 and 3 in list 0, and list 1 empty:
+    //     4 -> 1 -> 3 -> 4     5 -> 5
     links: Links,
     // The list that each node is in.
     owner: Vec<Option<u32>>,
@@ -42,7 +43,8 @@ impl Model for Lists {
 }
 
 impl Lists {
-    /// This many lists, all empty, for the nodes below `nodes`. `NoMemory` comes where an allocation was refused.
+    /// This many lists, all empty, for the nodes below `nodes`. `NoMemory` comes where an
+    /// allocation was refused.
     pub fn create(alloc: Global, nodes: u32, lists: u32) -> Result<Lists, NoMemory>
         ensures empty { IfOk result (λ s. s ≡ record { nodes = nodes; lists = replicate lists [] }) }
         ensures valid { IfOk result IsValid }
@@ -150,7 +152,8 @@ impl Lists {
         self.owner[node as usize] = None;
     }
 
-    /// Takes the first node of a list out of it, and gives it. `None` comes exactly where the list is empty.
+    /// Takes the first node of a list out of it, and gives it. `None` comes exactly where the list
+    /// is empty.
     pub fn pop_front(&mut self, list: u32) -> Option<u32>
         requires { list < length self.old.lists }
         ensures first { result ≡ slice_get (list_at self.old list) 0 }

@@ -1,8 +1,8 @@
 //! Pages of 4,096 bytes, by their numbers, in memory that is taken once.
 //!
-//! A contract sees a `PageArena` as the list of its pages, each the list of its bytes. `page` and `page_mut` tell of the
-//! page that is asked for that it has 4,096 bytes. A call on one page leaves all others, and their number stays. Only
-//! `PageArena::create` takes memory.
+//! A contract sees a `PageArena` as the list of its pages, each the list of its bytes. `page` and
+//! `page_mut` tell of the page that is asked for that it has 4,096 bytes. A call on one page leaves
+//! all others, and their number stays. Only `PageArena::create` takes memory.
 //!
 //! Which pages are in use, and who may read or write one, is kept by others.
 #![tactic(auto)]
