@@ -5,7 +5,7 @@ use Rattle.cl_types.specs.declared.reply.Answer.TheVariants as answer
 use Rattle.cl_types.specs.declared.line.Summary.{Summary}
 use Rattle.flat_model.specs.Account.{Account}
 use Rattle.flat_model.specs.Clients.{says_issued}
-use Rattle.flat_model.specs.Text.{Text, words, line_end}
+use Rattle.flat_model.specs.Text.{Text, line_of, line_end}
 
 abbrev pub is_done : Answer → Bool
 is_done (answer.Done value) = true
@@ -37,7 +37,7 @@ summary_of a = record {
 }
 
 abbrev pub count_line : Text → ℕ → Text
-count_line name n = words (name ∷ decimal n ∷ []) ++ line_end
+count_line name n = line_of (name ∷ decimal n ∷ [])
 
 -- the summary of a generated schedule, whose history is always a run
 abbrev pub summary_text : Summary → Text

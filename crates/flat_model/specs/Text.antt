@@ -13,14 +13,27 @@ is_empty [] = true
 is_empty (x ∷ xs) = false
 
 -- ---- to write
--- words with one space between each two
-abbrev pub words : List Text → Text
-words [] = []
-words (w ∷ []) = w
-words (w ∷ v ∷ ws) = w ++ 32 ∷ words (v ∷ ws)
-
 abbrev pub line_end : Text
 line_end = 10 ∷ []
+
+-- texts with this byte between each two
+abbrev pub separated : ℕ → List Text → Text
+separated c [] = []
+separated c (w ∷ []) = w
+separated c (w ∷ v ∷ ws) = w ++ c ∷ separated c (v ∷ ws)
+
+-- words with one space between each two, and numbers with a dot
+abbrev pub words : List Text → Text
+words = separated 32
+
+abbrev pub dotted : List Text → Text
+dotted = separated 46
+
+-- words, and then the end of the line
+abbrev pub line_of : List Text → Text
+line_of [] = line_end
+line_of (w ∷ []) = w ++ line_end
+line_of (w ∷ v ∷ ws) = w ++ 32 ∷ line_of (v ∷ ws)
 
 -- ---- to read
 -- a line feed at the very end begins no further line

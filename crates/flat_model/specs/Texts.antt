@@ -38,7 +38,7 @@ use Rattle.cl_types.specs.declared.config.Field.{Field}
 use Rattle.cl_types.specs.declared.config.Field.TheVariants as number
 use Rattle.flat_model.specs.declared.open_fault.OpenFault.{OpenFault}
 use Rattle.flat_model.specs.declared.open_fault.OpenFault.TheVariants.{BadConfig, NoRoom, NoMemory}
-use Rattle.flat_model.specs.Text.{Text, words, line_end}
+use Rattle.flat_model.specs.Text.{Text, words, dotted, line_of, line_end}
 use Rattle.flat_model.specs.Account.{Account, Line}
 use Rattle.flat_model.specs.Events.{account}
 use Rattle.flat_model.specs.Frames.{refusal_in}
@@ -60,10 +60,10 @@ perm_text ReadWrite = codes "rw"
 
 -- C.N, and C.N.P
 abbrev pub call_name : ClientNo → ℕ → Text
-call_name c n = decimal c.0 ++ codes "." ++ decimal n
+call_name c n = dotted (decimal c.0 ∷ decimal n ∷ [])
 
 abbrev pub part_name : ClientNo → Part → Text
-part_name c p = call_name c p.call.0 ++ codes "." ++ decimal p.part
+part_name c p = dotted (decimal c.0 ∷ decimal p.call.0 ∷ decimal p.part ∷ [])
 
 -- ---- what is refused, and what is wrong
 abbrev pub refusal_text : Refusal → Text
@@ -149,10 +149,10 @@ answer_text (answer.Done v) bytes = words (codes "done" ∷ value_text v bytes)
 answer_text (answer.Refused refusal) bytes = words (codes "refused" ∷ refusal_text refusal ∷ [])
 answer_text (answer.TimedOut first_sent now) bytes = words (codes "timed out" ∷ decimal first_sent ∷ decimal now ∷ [])
 
--- the call that ended, behind what the event did
-abbrev pub ended_text : Option EndedCall → Text
-ended_text None = []
-ended_text (Some e) = codes "; " ++ words (codes "answer" ∷ call_name e.client e.call.0 ∷ answer_text e.answer e.bytes ∷ [])
+-- how a line ends: with the call that ended, where one did
+abbrev pub ending_text : Option EndedCall → Text
+ending_text None = line_end
+ending_text (Some e) = codes "; " ++ line_of (codes "answer" ∷ call_name e.client e.call.0 ∷ answer_text e.answer e.bytes ∷ [])
 
 -- the texts of a line, with a semicolon and a space between each two
 abbrev pub texts_text : List Did → Text
@@ -161,7 +161,7 @@ texts_text (d ∷ []) = did_text d
 texts_text (d ∷ e ∷ ds) = did_text d ++ codes "; " ++ texts_text (e ∷ ds)
 
 abbrev pub line_text : Line → Text
-line_text line = words (decimal line.number ∷ (texts_text line.texts ++ ended_text line.ended) ∷ []) ++ line_end
+line_text line = words (decimal line.number ∷ (texts_text line.texts ++ ending_text line.ended) ∷ [])
 
 -- ---- an entry of the history
 abbrev pub op_text : Addr → AtomicOp → Text
@@ -187,12 +187,12 @@ reply_text (reply.Got bytes) = words (codes "ok" ∷ hex_or_dash bytes ∷ [])
 
 abbrev pub entry_text : Entry → Text
 entry_text e =
-    words (codes "h" ∷ decimal e.line ∷ decimal e.position ∷ part_name e.client e.part ∷ request_text e.request ∷ codes "=" ∷ reply_text e.reply ∷ []) ++ line_end
+    line_of (codes "h" ∷ decimal e.line ∷ decimal e.position ∷ part_name e.client e.part ∷ request_text e.request ∷ codes "=" ∷ reply_text e.reply ∷ [])
 
 -- ---- the whole
 abbrev pub account_text : Account → Text
 account_text a =
-    flat_map line_text a.lines ++ flat_map entry_text a.history ++ words (codes "end" ∷ decimal (length a.history) ∷ []) ++ line_end
+    flat_map line_text a.lines ++ flat_map entry_text a.history ++ line_of (codes "end" ∷ decimal (length a.history) ∷ [])
 
 -- the transcript of a schedule
 abbrev pub transcript : Schedule → Text
@@ -223,7 +223,7 @@ what_text what.BadEntry = codes "bad entry"
 
 -- a bad line of the input, by its number
 abbrev pub fault_line : ℕ × What → Text
-fault_line fault = codes "line " ++ decimal fault.0 ++ codes ": " ++ what_text fault.1 ++ line_end
+fault_line fault = codes "line " ++ (decimal fault.0 ++ (codes ": " ++ (what_text fault.1 ++ line_end)))
 
 abbrev pub number_text : Field → Text
 number_text number.Pages = codes "pages"
@@ -235,7 +235,7 @@ number_text number.Records = codes "records"
 
 -- why a node doesn't open; want of memory has no line
 abbrev pub open_fault_line : OpenFault → Text
-open_fault_line (BadConfig field value) = words (codes "bad node:" ∷ number_text field ∷ decimal value ∷ []) ++ line_end
+open_fault_line (BadConfig field value) = line_of (codes "bad node:" ∷ number_text field ∷ decimal value ∷ [])
 open_fault_line (NoRoom offload pages) =
-    words (codes "bad node: offload" ∷ decimal offload ∷ codes "pages" ∷ decimal pages ∷ []) ++ line_end
+    line_of (codes "bad node: offload" ∷ decimal offload ∷ codes "pages" ∷ decimal pages ∷ [])
 open_fault_line NoMemory = []
