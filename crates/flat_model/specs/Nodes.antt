@@ -84,14 +84,11 @@ module _ (keep : ℕ → List Record → List Record) where
   said_to n t [] = []
   said_to n t (i ∷ is) = let step : NodeStep = step_item n t i in step.said ∷ said_to step.node t is
 
-abbrev pub keep_every : ℕ → List Record → List Record
-keep_every retry records = records
-
-abbrev pub keeping : Node → ℕ → Item → NodeStep
-keeping = step_item latest
-
-abbrev pub ideal : Node → ℕ → Item → NodeStep
-ideal = step_item keep_every
+-- ---- bytes
+-- what a node says to bytes: their first fault, or what it says to each item
+pub data NodeAnswer : Type 0 where
+  Refuses : (fault : BadFrame) → NodeAnswer
+  Says : (said : List Said) → NodeAnswer
 
 -- the items of bytes: none where they spell no frame
 abbrev pub items_judged : List ℕ → Option BadFrame → List Item
@@ -100,3 +97,26 @@ items_judged bytes None = items_in bytes
 
 abbrev pub items_read : List ℕ → List Item
 items_read bytes = items_judged bytes (request_fault bytes)
+
+module _ (keep : ℕ → List Record → List Record) where
+  abbrev pub answer_judged : Node → ℕ → List ℕ → Option BadFrame → NodeAnswer
+  answer_judged n t bytes (Some fault) = Refuses fault
+  answer_judged n t bytes None = Says (said_to keep n t (items_in bytes))
+
+  -- given these bytes at this moment
+  abbrev pub node_answer : Node → ℕ → List ℕ → NodeAnswer
+  node_answer n t bytes = answer_judged n t bytes (request_fault bytes)
+
+  -- bytes that spell no frame leave the node
+  abbrev pub node_given : Node → ℕ → List ℕ → Node
+  node_given n t bytes = node_after keep n t (items_read bytes)
+
+-- ---- the two nodes
+abbrev pub keep_every : ℕ → List Record → List Record
+keep_every retry records = records
+
+abbrev pub keeping : Node → ℕ → Item → NodeStep
+keeping = step_item latest
+
+abbrev pub ideal : Node → ℕ → Item → NodeStep
+ideal = step_item keep_every
