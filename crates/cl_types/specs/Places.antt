@@ -8,7 +8,7 @@ use Rattle.std.specs.declared.cmp.Ordering.{Ordering}
 abbrev pub Place : Type 0
 Place = ℕ × ℕ
 
--- by space, and then by number
+-- places are in order by space, and then by number
 abbrev pub place_cmp : Place → Place → Ordering
 place_cmp a b = ordering_then (nat_cmp a.0 b.0) (nat_cmp a.1 b.1)
 

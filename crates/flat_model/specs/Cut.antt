@@ -47,13 +47,13 @@ pub data Ending : Type 0 where
   Replied : (reply : Reply) → Ending
   GivenUp : (first_sent now : ℕ) → Ending
 
--- the two moments of the least part that was given up
+-- timed out with the two moments of the least part that was given up, where one was
 abbrev pub first_given_up : List Ending → Option Answer
 first_given_up [] = None
 first_given_up (Replied reply ∷ endings) = first_given_up endings
 first_given_up (GivenUp first_sent now ∷ endings) = Some (answer.TimedOut first_sent now)
 
--- the refusal of the least part that was refused
+-- refused as the least part that was refused, where one was
 abbrev pub first_refusal : List Ending → Option Answer
 first_refusal [] = None
 first_refusal (Replied (reply.Refused refusal) ∷ endings) = Some (answer.Refused refusal)
@@ -71,6 +71,7 @@ only_value (Replied (reply.At addr) ∷ endings) = value.At addr
 only_value (Replied (reply.Word word) ∷ endings) = value.Word word
 only_value endings = value.Nothing
 
+-- the value of a call whose parts are all done: for a Read or an Offload, how many bytes were joined
 abbrev pub done_value : Call → List Ending → Value
 done_value (call.Read addr buf) endings = value.Len (length (joined endings))
 done_value (call.Offload number op bytes buf) endings = value.Len (length (joined endings))

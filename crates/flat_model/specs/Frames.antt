@@ -27,6 +27,7 @@ use Rattle.flat_model.specs.Faults.{first_fault}
 use Rattle.flat_model.specs.Ranges.{is_in_range, is_word, are_bytes}
 
 -- ---- the numbers of kinds, permissions, refusals and operations
+-- the kind of frame that carries the request
 abbrev pub kind_of : Request → Kind
 kind_of (request.Alloc pages perm) = kind.Alloc
 kind_of (request.Free addr pages) = kind.Free
@@ -35,6 +36,7 @@ kind_of (request.Write addr bytes) = kind.Write
 kind_of (request.Atomic addr op) = kind.Atomic
 kind_of (request.Offload number op out bytes) = kind.Offload
 
+-- the byte of a kind in a request's frame, 1 to 6; a reply's is 128 more
 abbrev pub kind_number : Kind → ℕ
 kind_number kind.Alloc = 1
 kind_number kind.Free = 2
@@ -43,11 +45,13 @@ kind_number kind.Write = 4
 kind_number kind.Atomic = 5
 kind_number kind.Offload = 6
 
+-- the byte of a permission in a frame, 1 to 3
 abbrev pub perm_number : Perm → ℕ
 perm_number ReadOnly = 1
 perm_number WriteOnly = 2
 perm_number ReadWrite = 3
 
+-- the status byte of a refusal, 1 to 8
 abbrev pub status_of : Refusal → ℕ
 status_of NoMapping = 1
 status_of NoPermission = 2
@@ -64,12 +68,14 @@ status_in (reply.Refused refusal) = status_of refusal
 status_in other = 0
 
 -- ---- the spelling of a value
+-- an atomic's operation in a body: its number, 1 to 4, and then its words
 abbrev pub op_spelling : AtomicOp → List ℕ
 op_spelling Lock = 1 ∷ []
 op_spelling Unlock = 2 ∷ []
 op_spelling (Add n) = 3 ∷ to_be_bytes w64 n
 op_spelling (Cas expect put) = 4 ∷ to_be_bytes w64 expect ++ to_be_bytes w64 put
 
+-- the body of a request's frame; its numbers are big-endian
 abbrev pub request_body : Request → List ℕ
 request_body (request.Alloc pages perm) = to_be_bytes w16 pages ++ perm_number perm ∷ []
 request_body (request.Free addr pages) = to_be_bytes w32 addr.0 ++ to_be_bytes w16 pages
@@ -78,6 +84,7 @@ request_body (request.Write addr bytes) = to_be_bytes w32 addr.0 ++ bytes
 request_body (request.Atomic addr op) = to_be_bytes w32 addr.0 ++ op_spelling op
 request_body (request.Offload number op out bytes) = number ∷ op ∷ to_be_bytes w16 out ++ bytes
 
+-- the bytes behind the status in the body of a reply's frame
 abbrev pub reply_value : Reply → List ℕ
 reply_value (reply.Refused refusal) = []
 reply_value reply.Nothing = []
@@ -90,20 +97,23 @@ abbrev pub frame_of : ℕ → Head → List ℕ → List ℕ
 frame_of kind head body =
     67 ∷ 76 ∷ 1 ∷ kind ∷ to_be_bytes w16 head.client.0 ++ to_be_bytes w16 head.pid ++ to_be_bytes w64 head.id ++ to_be_bytes w64 head.orig ++ to_be_bytes w16 (length body) ++ body
 
+-- the bytes of a request with its head
 abbrev pub request_frame : Head → Request → List ℕ
 request_frame head request = frame_of (kind_number (kind_of request)) head (request_body request)
 
--- a reply's kind is its request's plus 128, and its body the status and then the value
+-- the bytes of a reply with its head: its kind is its request's plus 128, and its status stands before its value
 abbrev pub reply_frame : Head → Kind → Reply → List ℕ
 reply_frame head kind reply = frame_of (128 + kind_number kind) head (status_in reply ∷ reply_value reply)
 
 -- ---- which bytes spell which value
+-- the numbers of a head are in the ranges that a frame can carry
 pub record IsHead (head : Head) : Type 0 where
   pub client : head.client.0 < 2 ^ 16
   pub pid : (1 ≤ head.pid) × (head.pid ≤ LAST_PID)
   pub id : head.id < 2 ^ 64
   pub orig : (1 ≤ head.orig) × (head.orig ≤ head.id)
 
+-- the bytes are those of this request with this head, and both are in their ranges
 pub record SpellsRequest (bytes : List ℕ) (head : Head) (body : Request) : Type 0 where
   pub good_head : IsHead head
   pub good_body : IsTrue (is_in_range body)
@@ -124,36 +134,43 @@ is_reply_of kind.Offload (reply.Got bytes) = leb (length bytes) PART_BYTES && ar
 is_reply_of kind.Atomic (reply.Word word) = is_word word
 is_reply_of k other = false
 
+-- the bytes are those of this reply of this kind with this head, and both are in their ranges
 pub record SpellsReply (bytes : List ℕ) (head : Head) (kind : Kind) (body : Reply) : Type 0 where
   pub good_head : IsHead head
   pub good_body : IsTrue (is_reply_of kind body)
   pub spelling : bytes ≡ reply_frame head kind body
 
 -- ---- what a reader finds at its places
+-- the number of 2 bytes, big-endian, from a place on
 abbrev pub number_16 : ℕ → List ℕ → ℕ
 number_16 at bytes = from_be_bytes w16 (bytes_at at 2 bytes)
 
+-- the number of 4 bytes, big-endian, from a place on
 abbrev pub number_32 : ℕ → List ℕ → ℕ
 number_32 at bytes = from_be_bytes w32 (bytes_at at 4 bytes)
 
+-- the number of 8 bytes, big-endian, from a place on
 abbrev pub number_64 : ℕ → List ℕ → ℕ
 number_64 at bytes = from_be_bytes w64 (bytes_at at 8 bytes)
 
+-- how many bytes the body has, as the header tells it
 abbrev pub body_len : List ℕ → ℕ
 body_len bytes = number_16 24 bytes
 
+-- the head as it stands in the bytes of a frame
 abbrev pub head_in : List ℕ → Head
 head_in bytes = record { client = record { 0 = number_16 4 bytes }; pid = number_16 6 bytes; id = number_64 8 bytes; orig = number_64 16 bytes }
 
--- ---- the checks of a reader in their order: whether each fails, and its fault
+-- ---- the checks of a reader
+-- checks in their order: of each whether it fails, and with what fault
 abbrev pub Checks : Type 0
 Checks = List (Bool × BadFrame)
 
--- a field that is good, or else a fault
+-- the check of a field, which fails where it isn't good
 abbrev pub field : Bool → FieldName → Bool × BadFrame
 field good f = (not good, bad.Field f)
 
--- of any frame, where these are the kinds that the reader takes
+-- the checks of any frame's header, where these are the kinds that the reader takes
 abbrev pub header_checks : (ℕ → Bool) → List ℕ → Checks
 header_checks is_kind bytes =
     (nat_lt (length bytes) 26, bad.Short (length bytes) 26)
@@ -167,7 +184,7 @@ header_checks is_kind bytes =
     ∷ field (is_within 1 (number_64 8 bytes) (number_64 16 bytes)) name.Orig
     ∷ []
 
--- of a request's body of n bytes
+-- the checks of an Alloc's body of n bytes
 abbrev pub alloc_checks : ℕ → List ℕ → Checks
 alloc_checks n body =
     field (n == 3) name.Body
@@ -175,6 +192,7 @@ alloc_checks n body =
     ∷ field (is_within 1 3 (slice_index body 2)) name.Perm
     ∷ []
 
+-- the checks of a Free's body of n bytes
 abbrev pub free_checks : ℕ → List ℕ → Checks
 free_checks n body =
     field (n == 6) name.Body
@@ -182,6 +200,7 @@ free_checks n body =
     ∷ field (is_within 1 RANGE_PAGES (number_16 4 body) && leb (number_32 0 body / PAGE_BYTES + number_16 4 body) SPACE_PAGES) name.Pages
     ∷ []
 
+-- the checks of a Read's body of n bytes
 abbrev pub read_checks : ℕ → List ℕ → Checks
 read_checks n body =
     field (n == 6) name.Body
@@ -189,6 +208,7 @@ read_checks n body =
     ∷ field (is_within 1 PART_BYTES (number_16 4 body) && leb (number_32 0 body % PAGE_BYTES + number_16 4 body) PAGE_BYTES) name.Len
     ∷ []
 
+-- the checks of a Write's body of n bytes
 abbrev pub write_checks : ℕ → List ℕ → Checks
 write_checks n body =
     field (is_within 5 (4 + PART_BYTES) n) name.Body
@@ -196,9 +216,11 @@ write_checks n body =
     ∷ field (leb (number_32 0 body % PAGE_BYTES + (n - 4)) PAGE_BYTES) name.Len
     ∷ []
 
+-- an atomic's body of n bytes may have this operation: 1 or 2 in 5 bytes, 3 in 13, and 4 in 21
 abbrev pub is_op : ℕ → ℕ → Bool
 is_op n op = if n == 5 then is_within 1 2 op else if n == 13 then op == 3 else op == 4
 
+-- the checks of an atomic's body of n bytes
 abbrev pub atomic_checks : ℕ → List ℕ → Checks
 atomic_checks n body =
     field (n == 5 || n == 13 || n == 21) name.Body
@@ -206,9 +228,11 @@ atomic_checks n body =
     ∷ field (is_op n (slice_index body 4)) name.Op
     ∷ []
 
+-- the checks of an Offload's body of n bytes
 abbrev pub offload_checks : ℕ → List ℕ → Checks
 offload_checks n body = field (is_within 4 (4 + PART_BYTES) n) name.Body ∷ field (leb (number_16 2 body) PART_BYTES) name.Len ∷ []
 
+-- the checks of a request's body of n bytes, by its kind's byte
 abbrev pub request_checks : ℕ → ℕ → List ℕ → Checks
 request_checks kind n body =
     if kind == 1 then alloc_checks n body
@@ -223,7 +247,7 @@ abbrev pub request_fault : List ℕ → Option BadFrame
 request_fault bytes =
     first_fault (header_checks (is_within 1 6) bytes ++ request_checks (slice_index bytes 3) (body_len bytes) (drop 26 bytes))
 
--- of a reply's body of n bytes with status 0
+-- the checks of a reply's body of n bytes with status 0, by its kind's byte
 abbrev pub ok_checks : ℕ → ℕ → List ℕ → Checks
 ok_checks kind n body =
     if kind == 129 then field (n == 5) name.Body ∷ field (is_range_start (number_32 1 body)) name.Addr ∷ []
@@ -232,6 +256,7 @@ ok_checks kind n body =
     else if kind == 134 then field (is_within 1 (1 + PART_BYTES) n) name.Body ∷ []
     else field (n == 1) name.Body ∷ []
 
+-- the checks of a reply's body of n bytes, by its kind's byte
 abbrev pub reply_checks : ℕ → ℕ → List ℕ → Checks
 reply_checks kind n body =
     field (leb 1 n) name.Body
@@ -244,9 +269,11 @@ reply_fault bytes =
     first_fault (header_checks (is_within 129 134) bytes ++ reply_checks (slice_index bytes 3) (body_len bytes) (drop 26 bytes))
 
 -- ---- what bytes with no fault spell
+-- the permission of a byte that is 1 to 3
 abbrev pub perm_in : ℕ → Perm
 perm_in n = if n == 1 then ReadOnly else if n == 2 then WriteOnly else ReadWrite
 
+-- the operation in an atomic's body
 abbrev pub op_in : List ℕ → AtomicOp
 op_in body =
     if slice_index body 4 == 1 then Lock
@@ -254,6 +281,7 @@ op_in body =
     else if slice_index body 4 == 3 then Add (number_64 5 body)
     else Cas (number_64 5 body) (number_64 13 body)
 
+-- the request in a good body, by its kind's byte
 abbrev pub request_in_body : ℕ → List ℕ → Request
 request_in_body kind body =
     if kind == 1 then request.Alloc (number_16 0 body) (perm_in (slice_index body 2))
@@ -263,14 +291,17 @@ request_in_body kind body =
     else if kind == 5 then request.Atomic (record { 0 = number_32 0 body }) (op_in body)
     else request.Offload (slice_index body 0) (slice_index body 1) (number_16 2 body) (drop 4 body)
 
+-- the request in a frame with no fault
 abbrev pub request_in : List ℕ → Request
 request_in bytes = request_in_body (slice_index bytes 3) (drop 26 bytes)
 
+-- the refusal of a status byte that is 1 to 8
 abbrev pub refusal_in : ℕ → Refusal
 refusal_in n =
     if n == 1 then NoMapping else if n == 2 then NoPermission else if n == 3 then NoPage else if n == 4 then NoRange
     else if n == 5 then NoOffload else if n == 6 then ObjectFull else if n == 7 then NoKey else BadOp
 
+-- the reply in a good body, by its kind's byte
 abbrev pub reply_in_body : ℕ → List ℕ → Reply
 reply_in_body kind body =
     if not (slice_index body 0 == 0) then reply.Refused (refusal_in (slice_index body 0))
@@ -279,6 +310,7 @@ reply_in_body kind body =
     else if kind == 133 then reply.Word (number_64 1 body)
     else reply.Nothing
 
+-- the reply in a frame with no fault
 abbrev pub reply_in : List ℕ → Reply
 reply_in bytes = reply_in_body (slice_index bytes 3) (drop 26 bytes)
 

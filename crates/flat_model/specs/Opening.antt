@@ -24,12 +24,15 @@ has_room c held =
 abbrev pub first_without_room : NodeConfig → Option ℕ
 first_without_room c = find (λ k. not (has_room c (held_by c (k + 1)))) (range_with_len 0 (length c.offloads))
 
+-- how many pages the offload of number k takes, 0 where there is none
 abbrev pub pages_at : List OffloadConfig → ℕ → ℕ
 pages_at offloads k = elim (slice_get offloads k) [ None ↦ 0 | Some offload ↦ offload_pages offload ]
 
+-- the first offload without room, with the pages that it takes, as the fault of an opening
 abbrev pub room_fault : NodeConfig → Option OpenFault
 room_fault c = option_map (λ k. NoRoom k (pages_at c.offloads k)) (first_without_room c)
 
+-- the bad number where there is one, and else this fault
 abbrev pub if_none_bad : Option (Field × ℕ) → Option OpenFault → Option OpenFault
 if_none_bad (Some number) fault = Some (BadConfig number.0 number.1)
 if_none_bad None fault = fault

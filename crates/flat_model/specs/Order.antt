@@ -19,10 +19,12 @@ touches (Write addr bytes) = pages_over addr.0 (length bytes)
 touches (Atomic addr op) = pages_over addr.0 8
 touches other = []
 
+-- the call is a Read
 abbrev pub is_read : Call → Bool
 is_read (Read addr buf) = true
 is_read other = false
 
+-- the call is a Fence
 abbrev pub is_fence : Call → Bool
 is_fence Fence = true
 is_fence other = false
@@ -32,16 +34,19 @@ abbrev pub offload_of : Call → Option (ℕ × Bool)
 offload_of (Offload number op bytes buf) = Some (number, op % 2 == 1)
 offload_of other = None
 
+-- of a call what its order rests on: its pages, whether it is a Read or a Fence, and its offload
 pub record Footprint : Type 0 where
   pub pages : List ℕ
   pub reads : Bool
   pub fence : Bool
   pub offload : Option (ℕ × Bool)
 
+-- what the order of this call rests on
 abbrev pub footprint : Call → Footprint
 footprint k = record { pages = touches k; reads = is_read k; fence = is_fence k; offload = offload_of k }
 
 -- ---- conflict and dependence
+-- a page is in both lists
 abbrev pub share_page : List ℕ → List ℕ → Bool
 share_page ps qs = list_any (λ p. list_any (λ q. p == q) qs) ps
 
@@ -54,9 +59,11 @@ offloads_conflict a b = false
 abbrev pub collide : Footprint → Footprint → Bool
 collide a b = share_page a.pages b.pages && not (a.reads && b.reads) || offloads_conflict a.offload b.offload
 
+-- two calls that may not pass each other, for a page or an offload that both use
 abbrev pub conflict : Call → Call → Bool
 conflict a b = collide (footprint a) (footprint b)
 
+-- both calls are there and conflict
 abbrev pub both_conflict : Option Call → Option Call → Bool
 both_conflict (Some a) (Some b) = conflict a b
 both_conflict a b = false
@@ -75,5 +82,6 @@ waits_for earlier later = collide earlier later || earlier.fence || later.fence
 abbrev pub may_go : List (ℕ × Footprint) → ℕ × Footprint → Bool
 may_go calls k = list_all (λ other. not (nat_lt other.0 k.0 && waits_for other.1 k.1)) calls
 
+-- the call of number n is one of these and waits for none of them
 abbrev pub ready_in : List (ℕ × Footprint) → ℕ → Bool
 ready_in calls n = list_any (λ k. k.0 == n && may_go calls k) calls

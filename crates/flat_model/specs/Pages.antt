@@ -11,7 +11,7 @@ use Rattle.cl_types.specs.Bytes.{bytes_at}
 abbrev pub page_of : Addr → ℕ
 page_of addr = addr.0 / PAGE_BYTES
 
--- and where it lies in the page
+-- where an address lies in its page: how many bytes behind the page's first
 abbrev pub offset_of : Addr → ℕ
 offset_of addr = addr.0 % PAGE_BYTES
 

@@ -15,12 +15,15 @@ use Rattle.cl_types.specs.declared.schedule.Event.TheVariants as event
 use Rattle.flat_model.specs.Pages.{page_of, offset_of}
 
 -- ---- of types
+-- each of the numbers is a byte, below 256
 abbrev pub are_bytes : List ℕ → Bool
 are_bytes bytes = list_all (λ b. nat_lt b 256) bytes
 
+-- the number is that of a word of 8 bytes, below 2^64
 abbrev pub is_word : ℕ → Bool
 is_word n = nat_lt n (2 ^ 64)
 
+-- the numbers of the operation are those of words of 8 bytes
 abbrev pub has_words : AtomicOp → Bool
 has_words (Add n) = is_word n
 has_words (Cas expect put) = is_word expect && is_word put
@@ -43,6 +46,7 @@ is_typed (event.Call client call) = is_typed_call call
 is_typed other = true
 
 -- ---- of requests
+-- the address is below 2^28, where a space ends
 abbrev pub is_good_address : Addr → Bool
 is_good_address addr = nat_lt addr.0 ADDRESS_END
 
@@ -50,6 +54,7 @@ is_good_address addr = nat_lt addr.0 ADDRESS_END
 abbrev pub is_piece : Addr → ℕ → Bool
 is_piece addr n = is_good_address addr && leb 1 n && leb n PART_BYTES && leb (offset_of addr + n) PAGE_BYTES
 
+-- a range may have so many pages: 1 to 1,024
 abbrev pub is_page_count : ℕ → Bool
 is_page_count n = leb 1 n && leb n RANGE_PAGES
 

@@ -23,7 +23,7 @@ abbrev pub ReadingChangesNothing : Type 0
 ReadingChangesNothing =
     (s : FlatState) (pid : ℕ) (request : Request) (reply : Reply) → is_changing request ≡ false → state_after s pid request reply ≡ s
 
--- so the state after a history is the state after its changing entries
+-- the state after a history is the state after its changing entries
 abbrev pub ChangingEntriesSuffice : Type 0
 ChangingEntriesSuffice = (s : FlatState) (history : List Entry) → after s (changing_of history) ≡ after s history
 
