@@ -39,19 +39,21 @@ abbrev pub pid_of : Config → ClientNo → ℕ
 pid_of config c = unwrap_or (option_map (λ entry. entry.1) (find (λ entry. same_client c entry.0) config.clients)) 0
 
 -- ---- calls
+-- the text tells that a call was issued
 abbrev pub says_issued : Did → Bool
 says_issued (did.Issued client number) = true
 says_issued other = false
 
+-- the call that the client issued on a line of this event and these texts, where it did
 abbrev pub issued_on : ClientNo → Event → List Did → Option Call
 issued_on c (event.Call client text) texts = if same_client c client && list_any says_issued texts then Some (call_of text) else None
 issued_on c other texts = None
 
--- the calls that a client has issued, numbered from 1
+-- the calls that a client has issued, in order
 abbrev pub issued : Account → ClientNo → List Call
 issued a c = filter_map (λ line. issued_on c line.event line.texts) a.lines
 
--- each with its number
+-- the calls that a client has issued, each with its number from 1
 abbrev pub numbered : Account → ClientNo → List (ℕ × Call)
 numbered a c = enumerate_from 1 (issued a c)
 
@@ -60,6 +62,7 @@ abbrev pub call_at : List Call → ℕ → Option Call
 call_at calls zero = None
 call_at calls (suc n) = slice_get calls n
 
+-- the request of this part of the call, where it has such a part
 abbrev pub part_request : Part → Call → Option Request
 part_request p k = slice_get (cut k) p.part
 
@@ -68,35 +71,40 @@ abbrev pub request_of_part : Account → ClientNo → Part → Option Request
 request_of_part a c p = option_and_then (part_request p) (call_at (issued a c) p.call.0)
 
 -- ---- what the texts say of one part
+-- what f reads off the texts of one line, given its moment
 abbrev pub texts_on : {A : Type 0} → (ℕ → Did → Option A) → Line → List A
 texts_on f line = filter_map (f line.moment) line.texts
 
--- what f reads off each text and the moment of its line
+-- what f reads off the texts of all lines, given the moment of each
 abbrev pub texts_with : {A : Type 0} → Account → (ℕ → Did → Option A) → List A
 texts_with a f = flat_map (texts_on f) a.lines
 
+-- the first item, where there is one
 abbrev pub first_of : {A : Type 0} → List A → Option A
 first_of [] = None
 first_of (x ∷ xs) = Some x
 
+-- the last item, and x where there is none
 abbrev pub last_of : {A : Type 0} → A → List A → A
 last_of x [] = x
 last_of x (y ∷ ys) = last_of y ys
 
--- the id under which the part was first sent, and when
+-- the id and the moment where the text tells the first sending of the part
 abbrev pub first_sending : ClientNo → Part → ℕ → Did → Option (ℕ × ℕ)
 first_sending c p t (did.Sent frame client part id) = if same_client c client && same_part p part then Some (id, t) else None
 first_sending c p t other = None
 
+-- the id under which the part was first sent, and the moment, where it was sent
 abbrev pub first_sent : Account → ClientNo → Part → Option (ℕ × ℕ)
 first_sent a c p = first_of (texts_with a (first_sending c p))
 
--- the moment of a sending
+-- the moment where the text tells a sending of the part, the first or another
 abbrev pub sending_on : ClientNo → Part → ℕ → Did → Option ℕ
 sending_on c p t (did.Sent frame client part id) = if same_client c client && same_part p part then Some t else None
 sending_on c p t (did.Again frame client part id orig) = if same_client c client && same_part p part then Some t else None
 sending_on c p t other = None
 
+-- the moments of all sendings of the part, in order
 abbrev pub moments_sent : Account → ClientNo → Part → List ℕ
 moments_sent a c p = texts_with a (sending_on c p)
 
@@ -105,11 +113,13 @@ pub data PartEnd : Type 0 where
   TookFrame : (frame : ℕ) → PartEnd
   GaveUpAt : (moment : ℕ) → PartEnd
 
+-- how the part left flight, where the text tells it
 abbrev pub part_end : ClientNo → Part → ℕ → Did → Option PartEnd
 part_end c p t (did.Took frame client part) = if same_client c client && same_part p part then Some (TookFrame frame) else None
 part_end c p t (did.GaveUp client part) = if same_client c client && same_part p part then Some (GaveUpAt t) else None
 part_end c p t other = None
 
+-- how the part left flight, where it did
 abbrev pub end_of_part : Account → ClientNo → Part → Option PartEnd
 end_of_part a c p = first_of (texts_with a (part_end c p))
 
@@ -118,6 +128,7 @@ abbrev pub replied : Load → Option Ending
 replied (Asks items) = None
 replied (Answers head reply if_taken) = Some (Replied reply)
 
+-- what came of a part that left flight so: the reply in the frame, or the two moments of giving up
 abbrev pub ending_by : Account → ClientNo → Part → PartEnd → Option Ending
 ending_by a c p (TookFrame frame) = option_and_then (λ f. replied f.load) (frame_at a frame)
 ending_by a c p (GaveUpAt moment) = option_map (λ first. GivenUp first.1 moment) (first_sent a c p)
@@ -126,20 +137,23 @@ ending_by a c p (GaveUpAt moment) = option_map (λ first. GivenUp first.1 moment
 abbrev pub ending : Account → ClientNo → Part → Option Ending
 ending a c p = option_and_then (ending_by a c p) (end_of_part a c p)
 
--- a part stands as its end and its sendings say
+-- how a part stands, by what came of it, its first sending, and the moments of all
 abbrev pub standing : Option Ending → Option (ℕ × ℕ) → List ℕ → Standing
 standing (Some e) first moments = Over e
 standing None None moments = Unsent
 standing None (Some (orig, first)) moments = InFlight orig first (last_of first moments)
 
+-- how a part stands, by the lines of the account
 abbrev pub standing_at : Account → ClientNo → Part → Standing
 standing_at a c p = standing (ending a c p) (first_sent a c p) (moments_sent a c p)
 
 -- ---- ends
+-- the text tells that a Fence ended
 abbrev pub says_fence_ended : Did → Bool
 says_fence_ended did.FenceEnded = true
 says_fence_ended other = false
 
+-- the line tells the end of the client's Fence of number n
 abbrev pub ends_fence : ClientNo → ℕ → Line → Bool
 ends_fence c n line = list_any says_fence_ended line.texts && elim line.ended [ None ↦ false | Some e ↦ same_client c e.client && e.call.0 == n ]
 
@@ -148,6 +162,7 @@ abbrev pub has_ended : Account → ClientNo → ClientCall → Bool
 has_ended a c k = if is_fence k.call then list_any (ends_fence c k.number) a.lines else is_some (finished k)
 
 -- ---- numbers
+-- the text tells that the client sent a part, for the first time or again
 abbrev pub is_sending : ClientNo → Did → Bool
 is_sending c (did.Sent frame client part id) = same_client c client
 is_sending c (did.Again frame client part id orig) = same_client c client
@@ -157,11 +172,12 @@ is_sending c other = false
 abbrev pub sendings : Account → ClientNo → ℕ
 sendings a c = count_by (is_sending c) (flat_map (λ line. line.texts) a.lines)
 
--- the moment of a line that polls the client
+-- the moment of a line, where it polls the client
 abbrev pub polled_on : ClientNo → ℕ → Event → Option ℕ
 polled_on c t (event.Poll client) = if same_client c client then Some t else None
 polled_on c t other = None
 
+-- the moment of the last line that polled the client, 0 where none did
 abbrev pub last_polled : Account → ClientNo → ℕ
 last_polled a c = last_of 0 (filter_map (λ line. polled_on c line.moment line.event) a.lines)
 

@@ -17,6 +17,7 @@ oldest_of zero xs = None
 oldest_of (suc n) xs = if leb (suc n) (length xs) then slice_get xs (length xs - suc n) else None
 
 -- ---- the cases
+-- what a node does with an item: it repeats a reply, is busy, executes the item, or looks
 pub data Handling : Type 0 where
   -- the reply that was recorded is given again
   Repeats : (reply : Reply) → Handling
@@ -25,24 +26,27 @@ pub data Handling : Type 0 where
   Executes : Handling
   Looks : Handling
 
+-- a reply that was recorded then is younger than 400 ticks at moment t
 abbrev pub is_young : ℕ → ℕ → Bool
 is_young t recorded = nat_lt (t - recorded) SPAN
 
+-- busy where the oldest record is young, and else executed
 abbrev pub if_young : Bool → ℕ → Handling
 if_young true oldest = RefusesForNow oldest
 if_young false oldest = Executes
 
--- a changing item that is not recorded, by the moment of the oldest of as many records as are kept
+-- how a changing item without a record is handled, by the moment of the oldest of as many records as are kept
 abbrev pub on_oldest : ℕ → Option ℕ → Handling
 on_oldest t None = Executes
 on_oldest t (Some oldest) = if_young (is_young t oldest) oldest
 
--- a reading item is looked up; a changing one is repeated where its reply is recorded, and else refused or executed
+-- how an item is handled: a reading one is looked up; a changing one is repeated where recorded, else busy or executed
 abbrev pub handling : (changing : Bool) → (recorded : Option Reply) → (t : ℕ) → (oldest : Option ℕ) → Handling
 handling false recorded t oldest = Looks
 handling true (Some reply) t oldest = Repeats reply
 handling true None t oldest = on_oldest t oldest
 
 -- ---- execution
+-- the flat machine's reply to the item, and the state after it
 abbrev pub item_outcome : FlatState → Item → Outcome
 item_outcome s i = outcome s i.head.pid i.request

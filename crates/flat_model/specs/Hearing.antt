@@ -9,6 +9,7 @@ use Rattle.cl_types.specs.declared.reply.Reply.TheVariants as reply
 use Rattle.flat_model.specs.Frames.{reply_fault, reply_in, head_in, kind_of, kind_number}
 use Rattle.flat_model.specs.Client.{ClientState, Sending, same_client, flight_under, after_reply}
 
+-- what a client hears in bytes: a fault, another client's reply, a late one, one that doesn't fit, or one to take
 pub data Hearing : Type 0 where
   HearsBad : (fault : BadFrame) → Hearing
   HearsOther : (client : ClientNo) → Hearing
@@ -27,14 +28,17 @@ abbrev pub is_fit : ℕ → List ℕ → Sending → Bool
 is_fit pid bytes s =
     slice_index bytes 3 == 128 + kind_number (kind_of s.request) && (head_in bytes).pid == pid && is_as_long s.request (reply_in bytes)
 
+-- a good reply is late where no part in flight has its orig, and is taken where it fits that part
 abbrev pub heard_in_flight : ℕ → List ℕ → Option Sending → Hearing
 heard_in_flight pid bytes None = HearsLate (head_in bytes).orig
 heard_in_flight pid bytes (Some s) = if is_fit pid bytes s then HearsReply s (reply_in bytes) else HearsUnfit (head_in bytes).orig
 
+-- a good reply is another client's, or heard by the part in flight under its orig
 abbrev pub heard_good : ClientState → List ℕ → Hearing
 heard_good s bytes =
     if same_client (head_in bytes).client s.client then heard_in_flight s.pid bytes (flight_under (head_in bytes).orig s) else HearsOther (head_in bytes).client
 
+-- bad bytes where there is a fault, and else what a good reply is heard as
 abbrev pub heard_judged : ClientState → List ℕ → Option BadFrame → Hearing
 heard_judged s bytes (Some f) = HearsBad f
 heard_judged s bytes None = heard_good s bytes

@@ -18,6 +18,7 @@ abbrev pub bytes_faults : Addr → ℕ → ℕ → ℕ → List (Bool × IssueFa
 bytes_faults addr n most len =
     (n == 0, fault.Empty) ∷ (nat_lt most n, fault.TooLong (as_far_as_told n)) ∷ (nat_lt ADDRESS_END (addr.0 + len), fault.BadAddress addr (as_far_as_told len)) ∷ []
 
+-- the faults of a call in their order, whatever the client holds: whether each holds
 abbrev pub call_faults : Call → List (Bool × IssueFault)
 call_faults (call.Alloc pages perm) = (pages == 0, fault.Empty) ∷ (nat_lt RANGE_PAGES pages, fault.TooLong (as_far_as_told pages)) ∷ []
 call_faults (call.Free addr pages) = bytes_faults addr pages RANGE_PAGES (PAGE_BYTES * pages) ++ (not (addr.0 % PAGE_BYTES == 0), fault.Misaligned addr) ∷ []

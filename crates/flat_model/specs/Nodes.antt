@@ -27,6 +27,7 @@ pub record Record : Type 0 where
   pub name : Name
   pub reply : Reply
 
+-- a node: its flat state, its records, and how many of these it may keep
 pub record Node : Type 0 where
   pub flat : FlatState
   -- in order of recording
@@ -34,6 +35,7 @@ pub record Node : Type 0 where
   -- how many it may keep
   pub retry : ℕ
 
+-- the node at its opening, with nothing recorded
 abbrev pub opening_node : NodeConfig → Node
 opening_node c = record { flat = opening c; records = []; retry = c.retry }
 
@@ -43,13 +45,16 @@ pub data Said : Type 0 where
   Gives : (how : How) → (reply : Reply) → Said
   IsBusy : (oldest now : ℕ) → Said
 
+-- what a node says to an item, and the node after it
 pub record NodeStep : Type 0 where
   pub said : Said
   pub node : Node
 
+-- the name under which the item's reply is recorded
 abbrev pub name_of : Item → Name
 name_of i = record { client = i.head.client; kind = kind_of i.request; orig = i.head.orig }
 
+-- the two are one name
 abbrev pub same_name : Name → Name → Bool
 same_name a b = same_client a.client b.client && kind_number a.kind == kind_number b.kind && a.orig == b.orig
 
@@ -59,6 +64,7 @@ record_named name records = find (λ r. same_name name r.name) records
 
 -- keep says which records stay: the latest, or all
 module _ (keep : ℕ → List Record → List Record) where
+  -- what a node says to an item that is handled so, and the node after it
   abbrev pub handles : Node → ℕ → Item → Handling → NodeStep
   handles n t i (Repeats reply) = record { said = Gives Repeated reply; node = n }
   handles n t i (RefusesForNow oldest) = record { said = IsBusy oldest t; node = n }
@@ -68,6 +74,7 @@ module _ (keep : ℕ → List Record → List Record) where
   }
   handles n t i Looks = let o : Outcome = item_outcome n.flat i in record { said = Gives Looked o.reply; node = n }
 
+  -- what a node says to an item at moment t, and the node after it
   abbrev pub step_item : Node → ℕ → Item → NodeStep
   step_item n t i = handles n t i (handling
       (is_changing i.request)
@@ -76,10 +83,12 @@ module _ (keep : ℕ → List Record → List Record) where
       (option_map (λ r. r.moment) (oldest_of n.retry n.records)))
 
   -- ---- a frame: its items in order
+  -- the node after these items at moment t
   abbrev pub node_after : Node → ℕ → List Item → Node
   node_after n t [] = n
   node_after n t (i ∷ is) = node_after (step_item n t i).node t is
 
+  -- what a node says to each of these items at moment t
   abbrev pub said_to : Node → ℕ → List Item → List Said
   said_to n t [] = []
   said_to n t (i ∷ is) = let step : NodeStep = step_item n t i in step.said ∷ said_to step.node t is
@@ -90,33 +99,38 @@ pub data NodeAnswer : Type 0 where
   Refuses : (fault : BadFrame) → NodeAnswer
   Says : (said : List Said) → NodeAnswer
 
--- the items of bytes: none where they spell no frame
+-- the items of bytes, none where there is a fault
 abbrev pub items_judged : List ℕ → Option BadFrame → List Item
 items_judged bytes (Some fault) = []
 items_judged bytes None = items_in bytes
 
+-- the items that a node reads in bytes, none where they spell no frame
 abbrev pub items_read : List ℕ → List Item
 items_read bytes = items_judged bytes (request_fault bytes)
 
 module _ (keep : ℕ → List Record → List Record) where
+  -- the fault of the bytes where there is one, and else what the node says to their items
   abbrev pub answer_judged : Node → ℕ → List ℕ → Option BadFrame → NodeAnswer
   answer_judged n t bytes (Some fault) = Refuses fault
   answer_judged n t bytes None = Says (said_to keep n t (items_in bytes))
 
-  -- given these bytes at this moment
+  -- what a node says to these bytes at moment t
   abbrev pub node_answer : Node → ℕ → List ℕ → NodeAnswer
   node_answer n t bytes = answer_judged n t bytes (request_fault bytes)
 
-  -- bytes that spell no frame leave the node
+  -- the node after these bytes at moment t, the same where they spell no frame
   abbrev pub node_given : Node → ℕ → List ℕ → Node
   node_given n t bytes = node_after keep n t (items_read bytes)
 
 -- ---- the two nodes
+-- all records, however many
 abbrev pub keep_every : ℕ → List Record → List Record
 keep_every retry records = records
 
+-- the step of a node that keeps its latest records only
 abbrev pub keeping : Node → ℕ → Item → NodeStep
 keeping = step_item latest
 
+-- the step of a node that keeps every record
 abbrev pub ideal : Node → ℕ → Item → NodeStep
 ideal = step_item keep_every

@@ -23,12 +23,14 @@ use Rattle.flat_model.specs.Account.{Account, Line, Frame, Carried, frame_at, it
 use Rattle.flat_model.specs.Clients.{issued, call_at, request_of_part, pid_of}
 use Rattle.flat_model.specs.Events.{record_of, on_peek}
 
--- ---- in order: no entry stands before one that it follows
+-- ---- in order
+-- no later entry of the list is at an earlier line and position
 abbrev pub IsInOrder : List Entry → Type 0
 IsInOrder [] = Unit {0}
 IsInOrder (e ∷ es) = Each (λ (later : Entry). is_before e.line e.position later ≡ false) es × IsInOrder es
 
--- ---- stands: each entry stands at a delivery of a live frame that carries its part at its position
+-- ---- stands
+-- the event hands a frame to its end
 abbrev pub is_delivery : Event → Bool
 is_delivery (event.Deliver frame) = true
 is_delivery event.DeliverNext = true
@@ -52,6 +54,7 @@ IsFirst a line c p = Each (λ (other : Line). other.number < line.number → Eac
 abbrev pub IsTaken : Account → ℕ → ClientNo → Part → Type 0
 IsTaken a frame c p = (line : Line) × Contains a.lines line × Contains line.texts (did.Took frame c p)
 
+-- the entry stands at a delivery of a live frame that carries its part at its position
 pub record StandsAt (a : Account) (e : Entry) : Type 0 where
   -- a line that delivers
   pub line : Line
@@ -76,6 +79,7 @@ pub record StandsAt (a : Account) (e : Entry) : Type 0 where
   -- a reading part: the one that made the reply which the client took
   pub reading : is_changing e.request ≡ false → (how ≡ Looked) × IsTaken a reply_frame e.client e.part
 
+-- each entry of the history stands at such a delivery
 abbrev pub Stands : Account → Type 0
 Stands a = Each (StandsAt a) a.history
 
@@ -89,6 +93,7 @@ pub record IsOwn (config : Config) (a : Account) (e : Entry) : Type 0 where
 abbrev pub Differ : Entry → Entry → Type 0
 Differ e other = e.client ≡ other.client → e.part ≡ other.part → ⊥
 
+-- no two entries are of one part
 abbrev pub AreDistinct : List Entry → Type 0
 AreDistinct [] = Unit {0}
 AreDistinct (e ∷ es) = Each (Differ e) es × AreDistinct es
@@ -97,6 +102,7 @@ AreDistinct (e ∷ es) = Each (Differ e) es × AreDistinct es
 abbrev pub reply_in_history : List Entry → ClientNo → Part → Option Ending
 reply_in_history h c p = option_map (λ e. Replied e.reply) (record_of h c p)
 
+-- the call timed out
 abbrev pub IsTimedOut : Answer → Type 0
 IsTimedOut (answer.TimedOut first_sent now) = Unit {0}
 IsTimedOut other = ⊥
@@ -110,31 +116,37 @@ pub record AnswerStands (a : Account) (ended : EndedCall) : Type 0 where
   pub made : ended.answer ≡ combine call endings
   pub bytes : ended.bytes ≡ answer_bytes (combine call endings) endings
 
+-- a call that ended timed out, or has the answer that the entries of its parts make
 abbrev pub EndStands : Account → Option EndedCall → Type 0
 EndStands a None = Unit {0}
 EndStands a (Some ended) = IsTimedOut ended.answer ⊎ AnswerStands a ended
 
+-- each entry is of an issued call's part, no part has two, and every answer but timed out is what the entries make
 pub record Once (config : Config) (a : Account) : Type 0 where
   pub own : Each (IsOwn config a) a.history
   pub distinct : AreDistinct a.history
   pub answers : Each (λ (line : Line). EndStands a line.ended) a.lines
 
--- ---- ordered: dependent calls of a client stand in order of issue
+-- ---- ordered
 -- the later part's call depends on the earlier part's
 pub record DependsOn (a : Account) (c : ClientNo) (p q : Part) : Type 0 where
   pub earlier : p.call.0 < q.call.0
   pub depend : depends (issued a c) (p.call.0 - 1) (q.call.0 - 1) ≡ true
 
+-- where the later part's call depends on the earlier part's, both of one client, its entry stands later
 abbrev pub Precedes : Account → Entry → Entry → Type 0
 Precedes a e later = e.client ≡ later.client → DependsOn a e.client e.part later.part → is_before later.line later.position e ≡ true
 
+-- the entries of a client's dependent calls stand in order of issue
 abbrev pub Ordered : Account → Type 0
 Ordered a = Each (λ (e : Entry). Each (Precedes a e) a.history) a.history
 
--- ---- peeks: each shows the run's memory on its line
+-- ---- peeks
+-- where the event is a peek, its line tells the run's memory there
 abbrev pub ShowsMemory : Config → List Entry → Line → Event → Type 0
 ShowsMemory config h line (event.Peek pid addr len) = line.texts ≡ (on_peek (memory_at config h line.number 0) pid addr len).texts
 ShowsMemory config h line other = Unit {0}
 
+-- every peek tells the run's memory on its line
 abbrev pub Peeks : Config → Account → Type 0
 Peeks config a = Each (λ (line : Line). ShowsMemory config a.history line line.event) a.lines

@@ -4,6 +4,7 @@ use Rattle.flat_model.specs.Frames.{Item, reply_frame, kind_of}
 use Rattle.flat_model.specs.Nodes.{Node, NodeStep, Said, Gives, IsBusy, keeping, items_read}
 use Rattle.flat_model.specs.Outside.{Clock, answer_of, after_answer, Received, Datagram, NothingCame, ReceivingFailed, Sendings, goes_through, after_sending}
 
+-- a node that is served: what it is given, and what was sent and counted so far
 pub record Serving (Peer : Type 0) : Type 0 where
   pub node : Node
   -- the latest moment that the node was given
@@ -24,6 +25,7 @@ abbrev pub with_reply : {Peer : Type 0} → Peer → List ℕ → Bool → Servi
 with_reply to bytes true s = record s { sent = s.sent ++ (to, bytes) ∷ []; sendings = after_sending s.sendings }
 with_reply to bytes false s = record s { failed = true; sendings = after_sending s.sendings }
 
+-- what the node says to an item goes back: a reply is sent, and a busy node sends nothing
 abbrev pub said_back : {Peer : Type 0} → Peer → Item → Said → Serving Peer → Serving Peer
 said_back to i (Gives how reply) s = with_reply to (reply_frame i.head (kind_of i.request) reply) (goes_through s.sendings) s
 said_back to i (IsBusy oldest now) s = s
@@ -40,9 +42,11 @@ answers from t (i ∷ is) s =
 abbrev pub moment_of : {Peer : Type 0} → Serving Peer → ℕ
 moment_of s = max (answer_of s.clock) s.last
 
+-- the moment is the latest one, and the clock has answered
 abbrev pub at_moment : {Peer : Type 0} → ℕ → Serving Peer → Serving Peer
 at_moment t s = record s { last = t; clock = after_answer s.clock }
 
+-- one datagram more was served, where the wire didn't fail
 abbrev pub counted : {Peer : Type 0} → Serving Peer → Serving Peer
 counted s = if s.failed then s else record s { served = s.served + 1; idles = 0 }
 
