@@ -7,25 +7,30 @@ use Rattle.flat_model.specs.Account.{Account}
 use Rattle.flat_model.specs.Clients.{says_issued}
 use Rattle.flat_model.specs.Text.{Text, line_of, line_end}
 
+-- the call was done
 abbrev pub is_done : Answer → Bool
 is_done (answer.Done value) = true
 is_done other = false
 
+-- the call was refused
 abbrev pub is_refused : Answer → Bool
 is_refused (answer.Refused refusal) = true
 is_refused other = false
 
+-- the call timed out
 abbrev pub is_timed_out : Answer → Bool
 is_timed_out (answer.TimedOut first_sent now) = true
 is_timed_out other = false
 
--- how many calls were issued, and the answers of those that ended
+-- how many calls were issued
 abbrev pub issued_count : Account → ℕ
 issued_count a = count_by says_issued (flat_map (λ line. line.texts) a.lines)
 
+-- the answers of the calls that ended
 abbrev pub answers : Account → List Answer
 answers a = filter_map (λ line. option_map (λ ended. ended.answer) line.ended) a.lines
 
+-- how many calls were issued and how they ended, and how many entries the history has
 abbrev pub summary_of : Account → Summary
 summary_of a = record {
   issued = issued_count a;
@@ -36,6 +41,7 @@ summary_of a = record {
   entries = length a.history;
 }
 
+-- the line of a name and a number
 abbrev pub count_line : Text → ℕ → Text
 count_line name n = line_of (name ∷ decimal n ∷ [])
 

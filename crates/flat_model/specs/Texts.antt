@@ -50,22 +50,26 @@ abbrev pub hex_or_dash : List ℕ → Text
 hex_or_dash [] = codes "-"
 hex_or_dash (b ∷ bs) = encode_lower (b ∷ bs)
 
+-- an address: 0x and its digits
 abbrev pub address : Addr → Text
 address addr = codes "0x" ++ digits 16 false addr.0
 
+-- a permission: r, w or rw
 abbrev pub perm_text : Perm → Text
 perm_text ReadOnly = codes "r"
 perm_text WriteOnly = codes "w"
 perm_text ReadWrite = codes "rw"
 
--- C.N, and C.N.P
+-- the name of a call, C.N: its client and its number
 abbrev pub call_name : ClientNo → ℕ → Text
 call_name c n = dotted (decimal c.0 ∷ decimal n ∷ [])
 
+-- the name of a part, C.N.P: its client, its call's number, and its place in the call
 abbrev pub part_name : ClientNo → Part → Text
 part_name c p = dotted (decimal c.0 ∷ decimal p.call.0 ∷ decimal p.part ∷ [])
 
 -- ---- what is refused, and what is wrong
+-- the words of a refusal
 abbrev pub refusal_text : Refusal → Text
 refusal_text NoMapping = codes "no mapping"
 refusal_text NoPermission = codes "no permission"
@@ -80,11 +84,13 @@ refusal_text BadOp = codes "bad op"
 abbrev pub status_text : ℕ → Text
 status_text status = if status == 0 then codes "ok" else refusal_text (refusal_in status)
 
+-- the word for how a node came to a reply
 abbrev pub how_text : How → Text
 how_text Executed = codes "executed"
 how_text Repeated = codes "repeated"
 how_text Looked = codes "looked"
 
+-- the words for why a call wasn't issued
 abbrev pub fault_text : IssueFault → Text
 fault_text fault.QueueFull = codes "queue full"
 fault_text fault.Empty = codes "empty"
@@ -92,6 +98,7 @@ fault_text (fault.TooLong len) = codes "too long"
 fault_text (fault.BadAddress addr len) = codes "bad address"
 fault_text (fault.Misaligned addr) = codes "misaligned"
 
+-- the word of a frame's field
 abbrev pub field_text : FieldName → Text
 field_text name.Pid = codes "pid"
 field_text name.Id = codes "id"
@@ -104,6 +111,7 @@ field_text name.Len = codes "len"
 field_text name.Op = codes "op"
 field_text name.Status = codes "status"
 
+-- the words of a fault of bytes, with the numbers that tell it
 abbrev pub bad_text : BadFrame → Text
 bad_text (bad.Short have need) = words (codes "bad short" ∷ decimal have ∷ decimal need ∷ [])
 bad_text bad.Magic = codes "bad magic"
@@ -113,6 +121,7 @@ bad_text (bad.Long have need) = words (codes "bad long" ∷ decimal have ∷ dec
 bad_text (bad.Field f) = words (codes "bad field" ∷ field_text f ∷ [])
 
 -- ---- what an event did
+-- the words for what an event did
 abbrev pub did_text : Did → Text
 did_text (did.Issued c n) = words (codes "issued" ∷ call_name c n.0 ∷ [])
 did_text (did.NotIssued f) = words (codes "not issued" ∷ fault_text f ∷ [])
@@ -144,6 +153,7 @@ value_text (value.At addr) bytes = address addr ∷ []
 value_text (value.Word n) bytes = decimal n ∷ []
 value_text (value.Len n) bytes = hex_or_dash bytes ∷ []
 
+-- a call's answer: done with its value, refused, or timed out with the two moments
 abbrev pub answer_text : Answer → List ℕ → Text
 answer_text (answer.Done v) bytes = words (codes "done" ∷ value_text v bytes)
 answer_text (answer.Refused refusal) bytes = words (codes "refused" ∷ refusal_text refusal ∷ [])
@@ -160,16 +170,19 @@ texts_text [] = []
 texts_text (d ∷ []) = did_text d
 texts_text (d ∷ e ∷ ds) = did_text d ++ codes "; " ++ texts_text (e ∷ ds)
 
+-- the line of an event: its number, its texts, and the call that ended
 abbrev pub line_text : Line → Text
 line_text line = words (decimal line.number ∷ (texts_text line.texts ++ ending_text line.ended) ∷ [])
 
 -- ---- an entry of the history
+-- an atomic, written as a call
 abbrev pub op_text : Addr → AtomicOp → Text
 op_text addr Lock = words (codes "lock" ∷ address addr ∷ [])
 op_text addr Unlock = words (codes "unlock" ∷ address addr ∷ [])
 op_text addr (Add n) = words (codes "add" ∷ address addr ∷ decimal n ∷ [])
 op_text addr (Cas expect put) = words (codes "cas" ∷ address addr ∷ decimal expect ∷ decimal put ∷ [])
 
+-- a request, written as a call with all its bytes
 abbrev pub request_text : Request → Text
 request_text (request.Alloc n perm) = words (codes "alloc" ∷ decimal n ∷ perm_text perm ∷ [])
 request_text (request.Free addr n) = words (codes "free" ∷ address addr ∷ decimal n ∷ [])
@@ -178,6 +191,7 @@ request_text (request.Write addr bytes) = words (codes "write" ∷ address addr 
 request_text (request.Atomic addr op) = op_text addr op
 request_text (request.Offload number op out bytes) = words (codes "offload" ∷ decimal number ∷ decimal op ∷ decimal out ∷ hex_or_dash bytes ∷ [])
 
+-- a reply: ok with its value, or a refusal
 abbrev pub reply_text : Reply → Text
 reply_text (reply.Refused refusal) = refusal_text refusal
 reply_text reply.Nothing = codes "ok"
@@ -185,11 +199,13 @@ reply_text (reply.At addr) = words (codes "ok" ∷ address addr ∷ [])
 reply_text (reply.Word n) = words (codes "ok" ∷ decimal n ∷ [])
 reply_text (reply.Got bytes) = words (codes "ok" ∷ hex_or_dash bytes ∷ [])
 
+-- the line of an entry: h, its place, its part, its request and its reply
 abbrev pub entry_text : Entry → Text
 entry_text e =
     line_of (codes "h" ∷ decimal e.line ∷ decimal e.position ∷ part_name e.client e.part ∷ request_text e.request ∷ codes "=" ∷ reply_text e.reply ∷ [])
 
 -- ---- the whole
+-- the lines of the events, those of the history, and the last with the number of entries
 abbrev pub account_text : Account → Text
 account_text a =
     flat_map line_text a.lines ++ flat_map entry_text a.history ++ line_of (codes "end" ∷ decimal (length a.history) ∷ [])
@@ -199,6 +215,7 @@ abbrev pub transcript : Schedule → Text
 transcript s = s.header ++ account_text (account s.config s.events)
 
 -- ---- the lines of faults
+-- the words for what is wrong with a line
 abbrev pub what_text : What → Text
 what_text what.BadByte = codes "bad byte"
 what_text what.BadSpacing = codes "bad spacing"
@@ -221,10 +238,11 @@ what_text what.EndExpected = codes "end expected"
 what_text what.BadCount = codes "bad count"
 what_text what.BadEntry = codes "bad entry"
 
--- a bad line of the input, by its number
+-- the line that tells a bad line of the input, by its number
 abbrev pub fault_line : ℕ × What → Text
 fault_line fault = codes "line " ++ (decimal fault.0 ++ (codes ": " ++ (what_text fault.1 ++ line_end)))
 
+-- the word of a number of a node's configuration
 abbrev pub number_text : Field → Text
 number_text number.Pages = codes "pages"
 number_text number.Buckets = codes "buckets"
