@@ -5,3 +5,6 @@ mod Rows3
 pub mod RunLemmas
 pub mod HistoryLemmas
 mod VectorRows
+pub mod FrameLemmas
+pub mod RequestFrameLemmas
+pub mod ReplyFrameLemmas

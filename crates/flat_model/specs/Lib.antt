@@ -30,3 +30,4 @@ pub mod Properties
 pub mod Generated
 pub mod Summaries
 pub mod RunLaws
+pub mod FrameLaws

@@ -9,5 +9,6 @@
 
 
 pub mod flat;
+pub mod frame_laws;
 pub mod open_fault;
 pub mod run_laws;
