@@ -1,15 +1,39 @@
 -- What a reader finds in a frame, and that a frame passes its reader's checks.
-use Rattle.std.proofs.Common.{◌≡◌, ℕ, ◌+◌, ◌<◌, ◌≤◌, ◌^◌, Bool, false, List, [], ◌∷◌, ◌++◌, length, None, refl, ◌∙◌, arith}
-use Rattle.std.specs.Prelude.{IsTrue, slice_index}
+use Rattle.std.proofs.Common.{◌≡◌, ℕ, ◌+◌, ◌<◌, ◌≤◌, ◌^◌, Bool, false, List, [], ◌∷◌, ◌++◌, length, None, refl, sym, ap, ◌∙◌, arith}
+use Rattle.std.specs.Prelude.{IsTrue, ◌==◌, slice_index, if◌then◌else◌}
 use Rattle.std.specs.Int.{to_be_bytes, w64}
 use Rattle.std.specs.List.{AllByRecursion}
 use Rattle.std.proofs.lemmas.Bool.Decides.{nat_tests}
 use Rattle.std.proofs.lemmas.Nat.{from_be_bytes-to_be_bytes_2, from_be_bytes-to_be_bytes_8}
+use Rattle.cl_types.specs.declared.call.Kind.{Kind}
+use Rattle.cl_types.specs.declared.call.Kind.TheVariants as kind
 use Rattle.cl_types.specs.declared.frame.Head.{Head}
 use Rattle.cl_types.specs.declared.numbers.TheConstants.{LAST_PID}
 use Rattle.flat_model.specs.Faults.{first_fault}
 use Rattle.flat_model.specs.Ranges.{is_word}
-use Rattle.flat_model.specs.Frames.{frame_of, head_in, IsHead, body_len, number_16, number_64, Checks, header_checks}
+use Rattle.flat_model.specs.Frames.{kind_number, frame_of, head_in, IsHead, body_len, number_16, number_64, Checks, header_checks}
+
+-- ---- kinds and their numbers
+-- the kind of this number
+abbrev pub kind_of_number : ℕ → Kind
+kind_of_number n =
+    if n == 1 then kind.Alloc else if n == 2 then kind.Free else if n == 3 then kind.Read else if n == 4 then kind.Write
+    else if n == 5 then kind.Atomic else kind.Offload
+
+kind_again : (k : Kind) → kind_of_number (kind_number k) ≡ k
+kind_again kind.Alloc = refl
+kind_again kind.Free = refl
+kind_again kind.Read = refl
+kind_again kind.Write = refl
+kind_again kind.Atomic = refl
+kind_again kind.Offload = refl
+
+-- kinds with one number are one
+pub one_kind : (k other : Kind) → kind_number k ≡ kind_number other → k ≡ other
+one_kind k other same = sym (kind_again k) ∙ ap kind_of_number same ∙ kind_again other
+
+pub kind_number-numbered : (n : ℕ) → 1 ≤ n → n ≤ 6 → kind_number (kind_of_number n) ≡ n
+kind_number-numbered n low high = grind (arith, nat_tests)
 
 -- ---- the numbers at their places
 pub client_again : (kind : ℕ) (head : Head) (body : List ℕ) → IsHead head → number_16 4 (frame_of kind head body) ≡ head.client.0

@@ -8,3 +8,8 @@ mod VectorRows
 pub mod FrameLemmas
 pub mod RequestFrameLemmas
 pub mod ReplyFrameLemmas
+pub mod ByteLemmas
+pub mod FaultlessFrameLemmas
+pub mod FaultlessRequestLemmas
+pub mod FaultlessReplyLemmas
+pub mod FrameKindLemmas

@@ -1,6 +1,6 @@
 -- What was spelled as a reply is read again.
 use Rattle.std.proofs.Common.{◌≡◌, ℕ, ◌+◌, ◌<◌, ◌^◌, not, List, ◌∷◌, length, None, refl, sym, ap, ◌∙◌, subst, arith}
-use Rattle.std.specs.Prelude.{IsTrue, ◌==◌, if◌then◌else◌}
+use Rattle.std.specs.Prelude.{IsTrue}
 use Rattle.std.specs.Int.{to_be_bytes, w32}
 use Rattle.std.proofs.lemmas.Bool.Decides.{nat_tests}
 use Rattle.std.proofs.lemmas.Nat.{from_be_bytes-to_be_bytes_4}
@@ -15,7 +15,7 @@ use Rattle.cl_types.specs.declared.reply.Reply.TheVariants as reply
 use Rattle.cl_types.specs.Config.{is_within}
 use Rattle.flat_model.specs.Frames.{IsHead, reply_fault, reply_in_body, reply_value, status_in, reply_frame, reply_checks, kind_number, number_32, is_reply_of, is_range_start}
 use Rattle.flat_model.specs.FrameLaws.{ReadsAsReply, RepliesAreReadAgain, BytesSpellOneReply}
-use Rattle.flat_model.proofs.FrameLemmas.{AllPassed, first_fault-frame, head_again, word_again}
+use Rattle.flat_model.proofs.FrameLemmas.{AllPassed, first_fault-frame, head_again, word_again, one_kind}
 
 -- the bytes of a reply: its status, and then its value
 abbrev reply_body : Reply → List ℕ
@@ -103,24 +103,6 @@ frame_reads head k body good_head good = record {
 pub replies_are_read_again : RepliesAreReadAgain
 replies_are_read_again bytes head k body spelled =
     subst (λ read. ReadsAsReply read head k body) (sym spelled.spelling) (frame_reads head k body spelled.good_head spelled.good_body)
-
--- the kind of this number
-abbrev kind_of_number : ℕ → Kind
-kind_of_number n =
-    if n == 1 then kind.Alloc else if n == 2 then kind.Free else if n == 3 then kind.Read else if n == 4 then kind.Write
-    else if n == 5 then kind.Atomic else kind.Offload
-
-kind_again : (k : Kind) → kind_of_number (kind_number k) ≡ k
-kind_again kind.Alloc = refl
-kind_again kind.Free = refl
-kind_again kind.Read = refl
-kind_again kind.Write = refl
-kind_again kind.Atomic = refl
-kind_again kind.Offload = refl
-
--- kinds with one number are one
-one_kind : (k other : Kind) → kind_number k ≡ kind_number other → k ≡ other
-one_kind k other same = sym (kind_again k) ∙ ap kind_of_number same ∙ kind_again other
 
 pub bytes_spell_one_reply : BytesSpellOneReply
 bytes_spell_one_reply bytes head other_head k other_kind body other_body spelled other =

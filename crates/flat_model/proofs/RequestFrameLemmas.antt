@@ -114,7 +114,7 @@ request_fits (request.Atomic addr (Cas expect put)) good = omega arith
 request_fits (request.Offload number op out bytes) good = grind (arith, nat_tests)
 
 -- its kind is one of a request
-request_kind : (body : Request) → IsTrue (is_within 1 6 (kind_number (kind_of body)))
+pub request_kind : (body : Request) → IsTrue (is_within 1 6 (kind_number (kind_of body)))
 request_kind (request.Alloc pages perm) = refl
 request_kind (request.Free addr pages) = refl
 request_kind (request.Read addr len) = refl
