@@ -40,26 +40,26 @@ joined at n bytes start rest first after = rw (first, after, ← (drop-drop n at
 
 -- ---- a number and its bytes
 -- a number that is read at a place, before the spelling of what is after it
-pub spell_16 : (at n : ℕ) (bytes rest : List ℕ) → IsTrue (are_bytes bytes) → at + 2 ≤ length bytes →
-    n ≡ number_16 at bytes → rest ≡ drop (at + 2) bytes → to_be_bytes w16 n ++ rest ≡ drop at bytes
+pub spell_16 : (at n : ℕ) (bytes rest : List ℕ) → IsTrue (are_bytes bytes) → at + 2 ≤ length bytes
+    → n ≡ number_16 at bytes → rest ≡ drop (at + 2) bytes → to_be_bytes w16 n ++ rest ≡ drop at bytes
 spell_16 at n bytes rest good within read after =
     let piece : List ℕ = bytes_at at 2 bytes in
     joined at 2 bytes (to_be_bytes w16 n) rest (be_bytes_2 piece n (length-at at 2 bytes within) (small piece (are_bytes_at at 2 bytes good)) read) after
 
-pub spell_32 : (at n : ℕ) (bytes rest : List ℕ) → IsTrue (are_bytes bytes) → at + 4 ≤ length bytes →
-    n ≡ number_32 at bytes → rest ≡ drop (at + 4) bytes → to_be_bytes w32 n ++ rest ≡ drop at bytes
+pub spell_32 : (at n : ℕ) (bytes rest : List ℕ) → IsTrue (are_bytes bytes) → at + 4 ≤ length bytes
+    → n ≡ number_32 at bytes → rest ≡ drop (at + 4) bytes → to_be_bytes w32 n ++ rest ≡ drop at bytes
 spell_32 at n bytes rest good within read after =
     let piece : List ℕ = bytes_at at 4 bytes in
     joined at 4 bytes (to_be_bytes w32 n) rest (be_bytes_4 piece n (length-at at 4 bytes within) (small piece (are_bytes_at at 4 bytes good)) read) after
 
-pub spell_64 : (at n : ℕ) (bytes rest : List ℕ) → IsTrue (are_bytes bytes) → at + 8 ≤ length bytes →
-    n ≡ number_64 at bytes → rest ≡ drop (at + 8) bytes → to_be_bytes w64 n ++ rest ≡ drop at bytes
+pub spell_64 : (at n : ℕ) (bytes rest : List ℕ) → IsTrue (are_bytes bytes) → at + 8 ≤ length bytes
+    → n ≡ number_64 at bytes → rest ≡ drop (at + 8) bytes → to_be_bytes w64 n ++ rest ≡ drop at bytes
 spell_64 at n bytes rest good within read after =
     let piece : List ℕ = bytes_at at 8 bytes in
     joined at 8 bytes (to_be_bytes w64 n) rest (be_bytes_8 piece n (length-at at 8 bytes within) (small piece (are_bytes_at at 8 bytes good)) read) after
 
-pub spell_8 : (at n : ℕ) (bytes rest : List ℕ) → at < length bytes →
-    n ≡ slice_index bytes at → rest ≡ drop (at + 1) bytes → n ∷ rest ≡ drop at bytes
+pub spell_8 : (at n : ℕ) (bytes rest : List ℕ) → at < length bytes
+    → n ≡ slice_index bytes at → rest ≡ drop (at + 1) bytes → n ∷ rest ≡ drop at bytes
 spell_8 at n bytes rest within read after = rw (read, after) (sym (rw add-one (drop-cons bytes at 0 within)))
 
 -- ---- the ranges of numbers

@@ -40,9 +40,9 @@ body_len-body : (is_kind : ℕ → Bool) (bytes : List ℕ) → HasHeader is_kin
 body_len-body is_kind bytes header = omega (arith, header.whole, length-drop 26 bytes)
 
 -- no fault of a frame: its header is good, and the checks of its body pass
-pub parts_passed : (is_kind : ℕ → Bool) (body_checks : ℕ → List ℕ → Checks) (bytes : List ℕ) →
-    first_fault (header_checks is_kind bytes ++ body_checks (body_len bytes) (drop 26 bytes)) ≡ None →
-    HasHeader is_kind bytes × AllPassed (body_checks (length (drop 26 bytes)) (drop 26 bytes))
+pub parts_passed : (is_kind : ℕ → Bool) (body_checks : ℕ → List ℕ → Checks) (bytes : List ℕ)
+    → first_fault (header_checks is_kind bytes ++ body_checks (body_len bytes) (drop 26 bytes)) ≡ None
+    → HasHeader is_kind bytes × AllPassed (body_checks (length (drop 26 bytes)) (drop 26 bytes))
 parts_passed is_kind body_checks bytes none =
     let body : List ℕ = drop 26 bytes in
     let both = passed_each (header_checks is_kind bytes) (body_checks (body_len bytes) body) none in
@@ -60,8 +60,8 @@ good_head is_kind bytes good header = record {
 }
 
 -- what a reader finds in them spells the bytes again
-frame_again : (is_kind : ℕ → Bool) (bytes : List ℕ) → IsTrue (are_bytes bytes) → HasHeader is_kind bytes →
-    frame_of (slice_index bytes 3) (head_in bytes) (drop 26 bytes) ≡ bytes
+frame_again : (is_kind : ℕ → Bool) (bytes : List ℕ) → IsTrue (are_bytes bytes) → HasHeader is_kind bytes
+    → frame_of (slice_index bytes 3) (head_in bytes) (drop 26 bytes) ≡ bytes
 frame_again is_kind bytes good header =
     let long : 26 ≤ length bytes = omega (arith, header.whole) in
     let body = spell_16 24 (length (drop 26 bytes)) bytes (drop 26 bytes) good (omega arith) (sym (body_len-body is_kind bytes header)) refl in
@@ -74,6 +74,6 @@ frame_again is_kind bytes good header =
     let second = spell_8 1 76 bytes _ (omega arith) (sym header.magic.1) version in
     spell_8 0 67 bytes _ (omega arith) (sym header.magic.0) second
 
-pub frame_spelled : (is_kind : ℕ → Bool) (bytes : List ℕ) (kind : ℕ) (body : List ℕ) → IsTrue (are_bytes bytes) → HasHeader is_kind bytes →
-    kind ≡ slice_index bytes 3 → body ≡ drop 26 bytes → bytes ≡ frame_of kind (head_in bytes) body
+pub frame_spelled : (is_kind : ℕ → Bool) (bytes : List ℕ) (kind : ℕ) (body : List ℕ) → IsTrue (are_bytes bytes) → HasHeader is_kind bytes
+    → kind ≡ slice_index bytes 3 → body ≡ drop 26 bytes → bytes ≡ frame_of kind (head_in bytes) body
 frame_spelled is_kind bytes kind body good header same_kind same_body = rw (same_kind, same_body) (sym (frame_again is_kind bytes good header))

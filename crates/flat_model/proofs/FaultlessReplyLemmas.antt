@@ -28,8 +28,8 @@ single : (byte : ℕ) (body : List ℕ) → length body ≡ 1 → byte ≡ slice
 single byte body long read = spell_8 0 byte body [] (omega arith) read (sym (drop_all 1 body (omega arith)))
 
 -- ---- a body of each status and kind that passes its checks
-refused_read : (k : Kind) (body : List ℕ) → slice_index body 0 ≢ 0 → AllPassed (reply_checks (128 + kind_number k) (length body) body) →
-    IsReadAs k body (reply_in_body (128 + kind_number k) body)
+refused_read : (k : Kind) (body : List ℕ) → slice_index body 0 ≢ 0 → AllPassed (reply_checks (128 + kind_number k) (length body) body)
+    → IsReadAs k body (reply_in_body (128 + kind_number k) body)
 refused_read k body nonzero passed =
     let test : (slice_index body 0 == 0) ≡ false = grind (arith, nat_tests) in
     let rest = rw test at passed.1.1 in
@@ -38,8 +38,8 @@ refused_read k body nonzero passed =
     let long : length body ≡ 1 = grind (arith, nat_tests) in
     rw test (record { good = refl; spelling = single _ body long (status_spelled (slice_index body 0) low high) })
 
-ok_read : (k : Kind) (body : List ℕ) → IsTrue (are_bytes body) → slice_index body 0 ≡ 0 → 1 ≤ length body → AllPassed (ok_checks (128 + kind_number k) (length body) body) →
-    IsReadAs k body (reply_in_body (128 + kind_number k) body)
+ok_read : (k : Kind) (body : List ℕ) → IsTrue (are_bytes body) → slice_index body 0 ≡ 0 → 1 ≤ length body
+    → AllPassed (ok_checks (128 + kind_number k) (length body) body) → IsReadAs k body (reply_in_body (128 + kind_number k) body)
 ok_read kind.Alloc body good zero long passed =
     let five : length body ≡ 5 = grind (arith, nat_tests) in
     let addr = spell_32 1 (number_32 1 body) body [] good (omega arith) refl (sym (drop_all 5 body (omega arith))) in
@@ -61,8 +61,8 @@ ok_read kind.Atomic body good zero long passed =
     rw zero (record { good = grind (arith, nat_tests); spelling = spell_8 0 0 body _ (omega arith) (sym zero) word })
 
 -- ---- a body of any status, and a frame
-body_read : (k : Kind) (body : List ℕ) → IsTrue (are_bytes body) → AllPassed (reply_checks (128 + kind_number k) (length body) body) →
-    IsReadAs k body (reply_in_body (128 + kind_number k) body)
+body_read : (k : Kind) (body : List ℕ) → IsTrue (are_bytes body) → AllPassed (reply_checks (128 + kind_number k) (length body) body)
+    → IsReadAs k body (reply_in_body (128 + kind_number k) body)
 body_read k body good passed = elim (cases_eq (slice_index body 0) 0) [
   | inl zero ↦ ok_read k body good zero (grind (arith, nat_tests)) (rw zero at passed.1.1)
   | inr nonzero ↦ refused_read k body nonzero passed

@@ -84,8 +84,8 @@ module _ (body : List ℕ) (good : IsTrue (are_bytes body)) where
 
 -- ---- an operation on a word
 -- which operation has so many bytes with its address
-op_cases : (n op : ℕ) → IsTrue (n == 5 || n == 13 || n == 21) → IsTrue (is_op n op) →
-    ((n ≡ 5) × (op ≡ 1)) ⊎ (((n ≡ 5) × (op ≡ 2)) ⊎ (((n ≡ 13) × (op ≡ 3)) ⊎ ((n ≡ 21) × (op ≡ 4))))
+op_cases : (n op : ℕ) → IsTrue (n == 5 || n == 13 || n == 21) → IsTrue (is_op n op)
+    → ((n ≡ 5) × (op ≡ 1)) ⊎ (((n ≡ 5) × (op ≡ 2)) ⊎ (((n ≡ 13) × (op ≡ 3)) ⊎ ((n ≡ 21) × (op ≡ 4))))
 op_cases n op long good = grind (arith, nat_tests)
 
 -- the operation that is read in a body has words of their type, and is spelled by what is after the address

@@ -84,8 +84,8 @@ pub record HasHeader (is_kind : ℕ → Bool) (bytes : List ℕ) : Type 0 where
   pub id : 1 ≤ number_64 8 bytes
   pub orig : (1 ≤ number_64 16 bytes) × (number_64 16 bytes ≤ number_64 8 bytes)
 
-pub has_header : (is_kind : ℕ → Bool) (kind : ℕ) (head : Head) (body : List ℕ) →
-    IsHead head → IsTrue (is_kind kind) → length body < 2 ^ 16 → HasHeader is_kind (frame_of kind head body)
+pub has_header : (is_kind : ℕ → Bool) (kind : ℕ) (head : Head) (body : List ℕ)
+    → IsHead head → IsTrue (is_kind kind) → length body < 2 ^ 16 → HasHeader is_kind (frame_of kind head body)
 has_header is_kind kind head body good good_kind fits =
     let long = body_len_again kind head body fits in
     let pid = pid_again kind head body good in
@@ -105,9 +105,9 @@ pub header_passed : (is_kind : ℕ → Bool) (bytes : List ℕ) → HasHeader is
 header_passed is_kind bytes h = grind (arith, nat_tests)
 
 -- a frame of good parts, whose body passes its checks, has no fault
-pub first_fault-frame : (is_kind : ℕ → Bool) (body_checks : ℕ → List ℕ → Checks) (kind : ℕ) (head : Head) (body : List ℕ) →
-    IsHead head → IsTrue (is_kind kind) → length body < 2 ^ 16 → AllPassed (body_checks (length body) body) →
-    first_fault (header_checks is_kind (frame_of kind head body) ++ body_checks (body_len (frame_of kind head body)) body) ≡ None
+pub first_fault-frame : (is_kind : ℕ → Bool) (body_checks : ℕ → List ℕ → Checks) (kind : ℕ) (head : Head) (body : List ℕ)
+    → IsHead head → IsTrue (is_kind kind) → length body < 2 ^ 16 → AllPassed (body_checks (length body) body)
+    → first_fault (header_checks is_kind (frame_of kind head body) ++ body_checks (body_len (frame_of kind head body)) body) ≡ None
 first_fault-frame is_kind body_checks kind head body good good_kind fits passed =
     let header = header_passed is_kind (frame_of kind head body) (has_header is_kind kind head body good good_kind fits) in
     first_fault-after (header_checks is_kind (frame_of kind head body)) (body_checks (body_len (frame_of kind head body)) body) header

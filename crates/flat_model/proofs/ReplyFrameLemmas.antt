@@ -90,7 +90,8 @@ is_reply_kind kind.Offload = refl
 reply_faultless : (head : Head) (k : Kind) (body : Reply) → IsHead head → IsTrue (is_reply_of k body) → reply_fault (reply_frame head k body) ≡ None
 reply_faultless head k body good_head good =
     let number : ℕ = 128 + kind_number k in
-    first_fault-frame (is_within 129 134) (reply_checks number) number head (reply_body body) good_head (is_reply_kind k) (reply_fits k body good) (reply_passed k body good)
+    first_fault-frame (is_within 129 134) (reply_checks number) number head (reply_body body)
+    good_head (is_reply_kind k) (reply_fits k body good) (reply_passed k body good)
 
 frame_reads : (head : Head) (k : Kind) (body : Reply) → IsHead head → IsTrue (is_reply_of k body) → ReadsAsReply (reply_frame head k body) head k body
 frame_reads head k body good_head good = record {

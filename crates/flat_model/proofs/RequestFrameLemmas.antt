@@ -83,8 +83,8 @@ request_again (request.Atomic addr op) good = rw (address_again addr (grind (ari
 request_again (request.Offload number op out bytes) good = rw (count_again out (grind (arith, nat_tests))) refl
 
 -- and its checks pass
-request_passed : (body : Request) → IsTrue (is_in_range body) →
-    AllPassed (request_checks (kind_number (kind_of body)) (length (request_body body)) (request_body body))
+request_passed : (body : Request) → IsTrue (is_in_range body)
+    → AllPassed (request_checks (kind_number (kind_of body)) (length (request_body body)) (request_body body))
 request_passed (request.Alloc pages perm) good =
     rw (count_again pages (grind (arith, nat_tests))) (refl, (ap not good, (perm_passed perm, tt)))
 request_passed (request.Free addr pages) good =
@@ -126,7 +126,8 @@ request_kind (request.Offload number op out bytes) = refl
 request_faultless : (head : Head) (body : Request) → IsHead head → IsTrue (is_in_range body) → request_fault (request_frame head body) ≡ None
 request_faultless head body good_head good =
     let kind : ℕ = kind_number (kind_of body) in
-    first_fault-frame (is_within 1 6) (request_checks kind) kind head (request_body body) good_head (request_kind body) (request_fits body good) (request_passed body good)
+    first_fault-frame (is_within 1 6) (request_checks kind) kind head (request_body body)
+    good_head (request_kind body) (request_fits body good) (request_passed body good)
 
 frame_reads : (head : Head) (body : Request) → IsHead head → IsTrue (is_in_range body) → ReadsAsRequest (request_frame head body) head body
 frame_reads head body good_head good = record {

@@ -1,4 +1,4 @@
--- The laws of frames: what was spelled is read again, and bytes spell at most one value.
+-- Laws of frames, each proved by a function of src/frame_laws.rt.
 use Rattle.std.specs.Prelude.{ℕ, ◌+◌, ◌≡◌, List, None, slice_index, IsTrue}
 use Rattle.cl_types.specs.declared.call.Kind.{Kind}
 use Rattle.cl_types.specs.declared.frame.Head.{Head}
@@ -16,19 +16,21 @@ pub record ReadsAsRequest (bytes : List ℕ) (head : Head) (body : Request) : Ty
 -- bytes that spell a request are read as that request
 abbrev pub RequestsAreReadAgain : Type 0
 RequestsAreReadAgain =
-    (bytes : List ℕ) (head : Head) (body : Request) → SpellsRequest bytes head body → ReadsAsRequest bytes head body
+    (bytes : List ℕ) (head : Head) (body : Request)
+    → SpellsRequest bytes head body → ReadsAsRequest bytes head body
 
 -- bytes spell at most one request, under one head
 abbrev pub BytesSpellOneRequest : Type 0
 BytesSpellOneRequest =
-    (bytes : List ℕ) (head other_head : Head) (body other_body : Request) →
-    SpellsRequest bytes head body → SpellsRequest bytes other_head other_body →
-    (head ≡ other_head) × (body ≡ other_body)
+    (bytes : List ℕ) (head other_head : Head) (body other_body : Request)
+    → SpellsRequest bytes head body → SpellsRequest bytes other_head other_body
+    → (head ≡ other_head) × (body ≡ other_body)
 
 -- bytes with no fault for a node spell the request that it reads in them
 abbrev pub FaultlessRequestsAreSpelled : Type 0
 FaultlessRequestsAreSpelled =
-    (bytes : List ℕ) → IsTrue (are_bytes bytes) → request_fault bytes ≡ None → SpellsRequest bytes (head_in bytes) (request_in bytes)
+    (bytes : List ℕ)
+    → IsTrue (are_bytes bytes) → request_fault bytes ≡ None → SpellsRequest bytes (head_in bytes) (request_in bytes)
 
 -- a client that reads the bytes finds no fault, this head, this kind and this body
 pub record ReadsAsReply (bytes : List ℕ) (head : Head) (kind : Kind) (body : Reply) : Type 0 where
@@ -40,23 +42,24 @@ pub record ReadsAsReply (bytes : List ℕ) (head : Head) (kind : Kind) (body : R
 -- bytes that spell a reply are read as that reply
 abbrev pub RepliesAreReadAgain : Type 0
 RepliesAreReadAgain =
-    (bytes : List ℕ) (head : Head) (kind : Kind) (body : Reply) → SpellsReply bytes head kind body → ReadsAsReply bytes head kind body
+    (bytes : List ℕ) (head : Head) (kind : Kind) (body : Reply)
+    → SpellsReply bytes head kind body → ReadsAsReply bytes head kind body
 
 -- bytes spell at most one reply, of one kind and under one head
 abbrev pub BytesSpellOneReply : Type 0
 BytesSpellOneReply =
-    (bytes : List ℕ) (head other_head : Head) (kind other_kind : Kind) (body other_body : Reply) →
-    SpellsReply bytes head kind body → SpellsReply bytes other_head other_kind other_body →
-    (head ≡ other_head) × (kind ≡ other_kind) × (body ≡ other_body)
+    (bytes : List ℕ) (head other_head : Head) (kind other_kind : Kind) (body other_body : Reply)
+    → SpellsReply bytes head kind body → SpellsReply bytes other_head other_kind other_body
+    → (head ≡ other_head) × (kind ≡ other_kind) × (body ≡ other_body)
 
 -- bytes with no fault for a client spell the reply that it reads in them, of some kind
 abbrev pub FaultlessRepliesAreSpelled : Type 0
 FaultlessRepliesAreSpelled =
-    (bytes : List ℕ) → IsTrue (are_bytes bytes) → reply_fault bytes ≡ None →
-    (kind : Kind) × SpellsReply bytes (head_in bytes) kind (reply_in bytes)
+    (bytes : List ℕ)
+    → IsTrue (are_bytes bytes) → reply_fault bytes ≡ None → (kind : Kind) × SpellsReply bytes (head_in bytes) kind (reply_in bytes)
 
 -- no bytes spell both a request and a reply
 abbrev pub NoRequestIsAReply : Type 0
 NoRequestIsAReply =
-    (bytes : List ℕ) (head other_head : Head) (kind : Kind) (request : Request) (reply : Reply) →
-    SpellsRequest bytes head request → SpellsReply bytes other_head kind reply → ⊥
+    (bytes : List ℕ) (head other_head : Head) (kind : Kind) (request : Request) (reply : Reply)
+    → SpellsRequest bytes head request → SpellsReply bytes other_head kind reply → ⊥

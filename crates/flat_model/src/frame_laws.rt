@@ -1,4 +1,4 @@
-//! The laws of frames, each the contract of a function that does nothing.
+//! Laws of frames: functions that do nothing, each with a law as its contract.
 
 ghost use Rattle.flat_model.specs.FrameLaws.{RequestsAreReadAgain, BytesSpellOneRequest, FaultlessRequestsAreSpelled, RepliesAreReadAgain, BytesSpellOneReply, FaultlessRepliesAreSpelled, NoRequestIsAReply};
 

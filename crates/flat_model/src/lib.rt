@@ -7,7 +7,6 @@
 //! their crates.
 #![tactic(auto)]
 
-
 pub mod flat;
 pub mod frame_laws;
 pub mod open_fault;
