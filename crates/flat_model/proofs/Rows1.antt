@@ -18,10 +18,10 @@ bad_bytes : replay (text (
     ∷ codes "garbage node 434c01010001000100000000000000010000000000000001000300010300"
     ∷ codes "garbage node 434c01010001000100000000000000010000000000000001000300010"
     ∷ []
-  )) ≡ text (
+    )) ≡ text (
     codes "line 8: bad bytes"
     ∷ []
-  )
+    )
 unfolding digits encode_with fresh_bytes home_of least
 bad_bytes = refl
 
@@ -34,7 +34,7 @@ bad_frames : replay (text (
     ∷ codes "garbage 1 434c01*9"
     ∷ codes "garbage node 434c01010001000100000000000000010000000000000001000300010300"
     ∷ []
-  )) ≡ text (
+    )) ≡ text (
     codes "node 16 8 4 4"
     ∷ codes "client 1 1"
     ∷ codes "3 bad short 2 26"
@@ -44,7 +44,7 @@ bad_frames : replay (text (
     ∷ codes "7 bad long 30 29"
     ∷ codes "end 0"
     ∷ []
-  )
+    )
 unfolding digits encode_with fresh_bytes home_of least
 bad_frames = refl
 
@@ -52,10 +52,10 @@ buckets_seven : replay (text (
     codes "node 16 7 4 4"
     ∷ codes "client 1 1"
     ∷ []
-  )) ≡ text (
+    )) ≡ text (
     codes "bad node: buckets 7"
     ∷ []
-  )
+    )
 unfolding digits encode_with fresh_bytes home_of least
 buckets_seven = refl
 
@@ -78,7 +78,7 @@ busy_while_the_oldest_is_young : replay (text (
     ∷ codes "deliver 5"
     ∷ codes "stat"
     ∷ []
-  )) ≡ text (
+    )) ≡ text (
     codes "node 16 8 4 2"
     ∷ codes "client 1 1"
     ∷ codes "3 issued 1.1"
@@ -101,7 +101,7 @@ busy_while_the_oldest_is_young : replay (text (
     ∷ codes "h 16 0 1.3.0 write 0x1000 02 = ok"
     ∷ codes "end 3"
     ∷ []
-  )
+    )
 unfolding digits encode_with fresh_bytes home_of least
 busy_while_the_oldest_is_young = refl
 
@@ -122,7 +122,7 @@ first_path : replay (text (
     ∷ codes "deliver next"
     ∷ codes "peek 1 0x1000 4"
     ∷ []
-  )) ≡ text (
+    )) ≡ text (
     codes "node 16 8 4 4"
     ∷ codes "client 1 1"
     ∷ codes "3 issued 1.1"
@@ -143,7 +143,7 @@ first_path : replay (text (
     ∷ codes "h 13 0 1.3.0 read 0x1000 4 = ok 61626300"
     ∷ codes "end 3"
     ∷ []
-  )
+    )
 unfolding digits encode_with fresh_bytes home_of least
 first_path = refl
 
@@ -162,7 +162,7 @@ frames_expire : replay (text (
     ∷ codes "deliver 3"
     ∷ codes "deliver 9"
     ∷ []
-  )) ≡ text (
+    )) ≡ text (
     codes "node 16 8 4 4"
     ∷ codes "client 1 1"
     ∷ codes "3 issued 1.1"
@@ -180,7 +180,7 @@ frames_expire : replay (text (
     ∷ codes "h 10 0 1.2.0 write 0x1000 61 = ok"
     ∷ codes "end 2"
     ∷ []
-  )
+    )
 unfolding digits encode_with fresh_bytes home_of least
 frames_expire = refl
 
@@ -197,7 +197,7 @@ fresh_page : replay (text (
     ∷ codes "deliver next"
     ∷ codes "stat"
     ∷ []
-  )) ≡ text (
+    )) ≡ text (
     codes "node 16 8 4 4"
     ∷ codes "client 1 1"
     ∷ codes "3 issued 1.1"
@@ -213,7 +213,7 @@ fresh_page : replay (text (
     ∷ codes "h 9 0 1.2.0 read 0x1000 3 = ok 000000"
     ∷ codes "end 2"
     ∷ []
-  )
+    )
 unfolding digits encode_with fresh_bytes home_of least
 fresh_page = refl
 
@@ -222,10 +222,10 @@ garbage_is_a_frame : replay (text (
     ∷ codes "client 1 1"
     ∷ codes "garbage node 434c010100010001000000000000000100000000000000010003000103"
     ∷ []
-  )) ≡ text (
+    )) ≡ text (
     codes "line 3: a frame"
     ∷ []
-  )
+    )
 unfolding digits encode_with fresh_bytes home_of least
 garbage_is_a_frame = refl
 
@@ -253,7 +253,7 @@ given_up : replay (text (
     ∷ codes "poll 1"
     ∷ codes "deliver 6"
     ∷ []
-  )) ≡ text (
+    )) ≡ text (
     codes "node 16 8 4 8"
     ∷ codes "client 1 1"
     ∷ codes "client 2 1"
@@ -279,7 +279,7 @@ given_up : replay (text (
     ∷ codes "h 6 0 1.1.0 alloc 1 rw = ok 0x1000"
     ∷ codes "end 1"
     ∷ []
-  )
+    )
 unfolding digits encode_with fresh_bytes home_of least
 given_up = refl
 
@@ -326,7 +326,7 @@ key_value_store : replay (text (
     ∷ codes "deliver next"
     ∷ codes "deliver next"
     ∷ []
-  )) ≡ text (
+    )) ≡ text (
     codes "node 16 8 4 16"
     ∷ codes "offload kv 2"
     ∷ codes "client 1 1"
@@ -379,6 +379,6 @@ key_value_store : replay (text (
     ∷ codes "h 40 0 1.9.0 offload 1 2 8 - = no offload"
     ∷ codes "end 9"
     ∷ []
-  )
+    )
 unfolding digits encode_with fresh_bytes home_of least
 key_value_store = refl

@@ -50,7 +50,7 @@ locked_counter : replay (text (
     ∷ codes "deliver next"
     ∷ codes "call 1 lock 0x1000"
     ∷ []
-  )) ≡ text (
+    )) ≡ text (
     codes "node 4096 2048 64 4096"
     ∷ codes "client 1 1"
     ∷ codes "client 2 1"
@@ -102,16 +102,16 @@ locked_counter : replay (text (
     ∷ codes "h 38 0 2.4.0 unlock 0x1000 = ok 1"
     ∷ codes "end 9"
     ∷ []
-  )
+    )
 unfolding digits encode_with fresh_bytes home_of least
 locked_counter = refl
 
 no_input : replay (text (
     []
-  )) ≡ text (
+    )) ≡ text (
     codes "line 1: node expected"
     ∷ []
-  )
+    )
 unfolding digits encode_with fresh_bytes home_of least
 no_input = refl
 
@@ -120,10 +120,10 @@ no_room_for_an_object : replay (text (
     ∷ codes "offload kv 2"
     ∷ codes "client 1 1"
     ∷ []
-  )) ≡ text (
+    )) ≡ text (
     codes "bad node: offload 0 pages 2"
     ∷ []
-  )
+    )
 unfolding digits encode_with fresh_bytes home_of least
 no_room_for_an_object = refl
 
@@ -160,7 +160,7 @@ pages_run_out : replay (text (
     ∷ codes "deliver next"
     ∷ codes "stat"
     ∷ []
-  )) ≡ text (
+    )) ≡ text (
     codes "node 1 8 1 8"
     ∷ codes "client 1 1"
     ∷ codes "3 issued 1.1"
@@ -201,7 +201,7 @@ pages_run_out : replay (text (
     ∷ codes "h 29 0 1.7.0 read 0x2000 4 = ok aa000000"
     ∷ codes "end 7"
     ∷ []
-  )
+    )
 unfolding digits encode_with fresh_bytes home_of least
 pages_run_out = refl
 
@@ -226,7 +226,7 @@ permission_before_page : replay (text (
     ∷ codes "deliver next"
     ∷ codes "stat"
     ∷ []
-  )) ≡ text (
+    )) ≡ text (
     codes "node 1 8 1 8"
     ∷ codes "client 1 1"
     ∷ codes "3 issued 1.1"
@@ -252,7 +252,7 @@ permission_before_page : replay (text (
     ∷ codes "h 17 0 1.4.0 write 0x2000 bb = no permission"
     ∷ codes "end 4"
     ∷ []
-  )
+    )
 unfolding digits encode_with fresh_bytes home_of least
 permission_before_page = refl
 
@@ -281,7 +281,7 @@ range_shares_a_bucket : replay (text (
     ∷ codes "deliver next"
     ∷ codes "deliver next"
     ∷ []
-  )) ≡ text (
+    )) ≡ text (
     codes "node 16 2 4 16"
     ∷ codes "client 1 1"
     ∷ codes "client 2 2"
@@ -312,7 +312,7 @@ range_shares_a_bucket : replay (text (
     ∷ codes "h 22 0 1.2.0 alloc 2 rw = ok 0x5000"
     ∷ codes "end 5"
     ∷ []
-  )
+    )
 unfolding digits encode_with fresh_bytes home_of least
 range_shares_a_bucket = refl
 
@@ -334,7 +334,7 @@ read_after_a_timed_out_write : replay (text (
     ∷ codes "deliver 5"
     ∷ codes "deliver 6"
     ∷ []
-  )) ≡ text (
+    )) ≡ text (
     codes "node 16 8 4 4"
     ∷ codes "client 1 1"
     ∷ codes "3 issued 1.1"
@@ -356,7 +356,7 @@ read_after_a_timed_out_write : replay (text (
     ∷ codes "h 15 0 1.3.0 read 0x1000 1 = ok 77"
     ∷ codes "end 3"
     ∷ []
-  )
+    )
 unfolding digits encode_with fresh_bytes home_of least
 read_after_a_timed_out_write = refl
 
@@ -378,7 +378,7 @@ read_where_its_reply_was_made : replay (text (
     ∷ codes "deliver 7"
     ∷ codes "deliver 4"
     ∷ []
-  )) ≡ text (
+    )) ≡ text (
     codes "node 16 8 4 8"
     ∷ codes "client 1 1"
     ∷ codes "client 2 1"
@@ -400,7 +400,7 @@ read_where_its_reply_was_made : replay (text (
     ∷ codes "h 14 0 1.2.0 read 0x1000 1 = ok 55"
     ∷ codes "end 3"
     ∷ []
-  )
+    )
 unfolding digits encode_with fresh_bytes home_of least
 read_where_its_reply_was_made = refl
 
@@ -419,7 +419,7 @@ refusal_stays : replay (text (
     ∷ codes "deliver 5"
     ∷ codes "peek 1 0x1000 1"
     ∷ []
-  )) ≡ text (
+    )) ≡ text (
     codes "node 16 8 4 4"
     ∷ codes "client 1 1"
     ∷ codes "client 2 1"
@@ -437,6 +437,6 @@ refusal_stays : replay (text (
     ∷ codes "h 9 0 2.1.0 alloc 1 rw = ok 0x1000"
     ∷ codes "end 2"
     ∷ []
-  )
+    )
 unfolding digits encode_with fresh_bytes home_of least
 refusal_stays = refl

@@ -97,8 +97,7 @@ round i g =
     let second : Drawn Event = frame_drawn first.1 in
     let third : Drawn Event = frame_drawn second.1 in
     let repeat : Drawn (List Event) = repeat_of i (draw 10 third.1) in
-    let tick : Drawn (List Event) = tick_of (draw 3 repeat.1) in
-    (
+    let tick : Drawn (List Event) = tick_of (draw 3 repeat.1) in (
       event.Call c.0.client called.0 ∷ event.Poll c.0.client ∷ other.0 ∷ first.0 ∷ second.0 ∷ third.0 ∷ (repeat.0 ++ tick.0),
       tick.1,
     )

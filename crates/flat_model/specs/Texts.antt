@@ -43,7 +43,6 @@ use Rattle.flat_model.specs.Account.{Account, Line}
 use Rattle.flat_model.specs.Events.{account}
 use Rattle.flat_model.specs.Frames.{refusal_in}
 
-
 -- ---- words
 -- bytes, or a dash for none
 abbrev pub hex_or_dash : List ℕ → Text
