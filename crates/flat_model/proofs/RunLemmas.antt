@@ -1,16 +1,14 @@
 -- Steps and runs of the flat machine.
-use Rattle.std.proofs.Common.{◌≡◌, ℕ, zero, suc, ◌%◌, ◌==◌, Bool, true, false, cond, List, [], ◌∷◌, ◌++◌, refl, sym, ap, ◌∙◌, Option, Some, None, Ok, Err, slice_get, slice_set, arith, ◌↔◌}
+use Rattle.std.proofs.Common.{◌≡◌, ℕ, zero, suc, ◌%◌, ◌==◌, Bool, true, false, cond, List, [], ◌∷◌, ◌++◌, refl, sym, ap, ◌∙◌, Option, Some, None, Ok, Err, slice_get, slice_set, arith}
 use Rattle.std.proofs.lemmas.Bool.Decides.{nat_tests}
 use Rattle.cl_types.specs.Requests.{is_changing}
 use Rattle.cl_types.specs.declared.line.Entry.{Entry}
 use Rattle.cl_types.specs.declared.numbers.Addr.{Addr}
-use Rattle.cl_types.specs.declared.reply.Reply.{Reply}
-use Rattle.cl_types.specs.declared.request.Request.{Request}
 use Rattle.cl_types.specs.declared.request.Request.TheVariants as request
 use Rattle.flat_model.specs.Objects.{Object, KvObject, Pairs, Given, kv_step, object_step}
 use Rattle.flat_model.specs.State.{FlatState}
-use Rattle.flat_model.specs.Step.{Outcome, given, read, on_object, state_after}
-use Rattle.flat_model.specs.Run.{Step, after, after_entry, changing_of, IsRunFrom}
+use Rattle.flat_model.specs.Step.{given, read, on_object}
+use Rattle.flat_model.specs.Run.{after, after_entry, changing_of, IsRunFrom}
 use Rattle.flat_model.specs.RunLaws.{StateAfterIsFixed, ReadingChangesNothing, ChangingEntriesSuffice, RunsSplit}
 
 pub state_after_is_fixed : StateAfterIsFixed

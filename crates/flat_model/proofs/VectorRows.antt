@@ -1,5 +1,5 @@
 -- Worked frames, as their bytes in hexadecimal.
-use Rattle.std.proofs.Common.{◌≡◌, ℕ, List, [], ◌∷◌, refl}
+use Rattle.std.proofs.Common.{◌≡◌, ℕ, refl}
 use Rattle.std.specs.Prelude.{codes}
 use Rattle.hex.specs.Hex.{encode_lower, encode_with}
 use Rattle.cl_types.specs.declared.call.AtomicOp.TheVariants.{Add}

@@ -1,5 +1,5 @@
 -- The bytes of frames: the one spelling of each value, and the first fault of bytes that spell none.
-use Rattle.std.specs.Prelude.{ℕ, ◌+◌, ◌-◌, ◌/◌, ◌%◌, ◌^◌, ◌<◌, ◌≤◌, ◌≡◌, ◌==◌, Bool, true, false, ◌&&◌, ◌||◌, not, leb, nat_lt, List, [], ◌∷◌, ◌++◌, length, drop, if◌then◌else◌, Option, Some, None, slice_index, IsTrue}
+use Rattle.std.specs.Prelude.{ℕ, ◌+◌, ◌-◌, ◌/◌, ◌%◌, ◌^◌, ◌<◌, ◌≤◌, ◌≡◌, ◌==◌, Bool, true, false, ◌&&◌, ◌||◌, not, leb, nat_lt, List, [], ◌∷◌, ◌++◌, length, drop, if◌then◌else◌, Option, slice_index, IsTrue}
 use Rattle.std.specs.Int.{to_be_bytes, from_be_bytes, w16, w32, w64}
 use Rattle.cl_types.specs.declared.call.Kind.{Kind}
 use Rattle.cl_types.specs.declared.call.Kind.TheVariants as kind

@@ -1,5 +1,5 @@
 -- What a wire and a clock give to the loops that serve a node and drive a client.
-use Rattle.std.specs.Prelude.{ℕ, Bool, true, false, List, [], ◌∷◌}
+use Rattle.std.specs.Prelude.{ℕ, Bool, true, List, [], ◌∷◌}
 
 -- ---- a clock
 -- a clock: the moments that it still answers, in ticks, and the one that it repeats after them

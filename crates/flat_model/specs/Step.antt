@@ -1,5 +1,5 @@
 -- One step of the flat machine.
-use Rattle.std.specs.Prelude.{ℕ, ◌+◌, ◌*◌, ◌≡◌, ◌==◌, Bool, true, false, ◌&&◌, not, leb, nat_lt, List, [], ◌∷◌, take, if◌then◌else◌, Option, Some, None, is_none, Ok, Err, slice_get, slice_set, IsTrue}
+use Rattle.std.specs.Prelude.{ℕ, ◌+◌, ◌*◌, ◌≡◌, ◌==◌, Bool, true, false, ◌&&◌, not, leb, nat_lt, List, [], ◌∷◌, take, Option, Some, None, is_none, Ok, Err, slice_get, slice_set, IsTrue}
 use Rattle.std.specs.Int.{to_le_bytes, w64}
 use Rattle.std.specs.FinMap.Entries.{find, put, where_key}
 use Rattle.std.specs.Ordering.{eq_by_cmp}
