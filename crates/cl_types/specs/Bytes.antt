@@ -1,5 +1,5 @@
 -- Pieces of a list of bytes.
-use Rattle.std.specs.Prelude.{ℕ, ◌+◌, ◌*◌, ◌<◌, ◌≤◌, List, ◌++◌, take, drop, length, replicate}
+use Rattle.std.specs.Prelude.{ℕ, ◌+◌, List, ◌++◌, take, drop, length, replicate}
 
 -- the n bytes from a place on
 abbrev pub bytes_at : ℕ → ℕ → List ℕ → List ℕ
@@ -13,6 +13,7 @@ with_bytes at bytes old = take at old ++ bytes ++ drop (at + length bytes) old
 abbrev pub over : {A : Type 0} → List A → List A → List A
 over old new = take (length old) (new ++ drop (length new) old)
 
+-- n bytes that are 0
 abbrev pub zeros : ℕ → List ℕ
 zeros n = replicate n 0
 

@@ -7,6 +7,7 @@ use Rattle.cl_types.specs.declared.config.OffloadConfig.{OffloadConfig}
 use Rattle.cl_types.specs.declared.config.OffloadConfig.TheVariants.{Kv}
 use Rattle.cl_types.specs.Places.{is_bucket_count}
 
+-- the number is in this range, both ends counted
 abbrev pub is_within : ℕ → ℕ → ℕ → Bool
 is_within low high n = leb low n && leb n high
 
@@ -18,6 +19,7 @@ Judged = Field × ℕ × Bool
 abbrev pub judged_offload : OffloadConfig → List Judged
 judged_offload (Kv records) = (field.Records, records, is_within 1 4096 records) ∷ []
 
+-- all objects' numbers, in the order of the offloads
 abbrev pub judged_offloads : List OffloadConfig → List Judged
 judged_offloads [] = []
 judged_offloads (offload ∷ offloads) = judged_offload offload ++ judged_offloads offloads
@@ -32,11 +34,12 @@ judged c =
     ∷ (field.Offloads, length c.offloads, is_within 0 16 (length c.offloads))
     ∷ judged_offloads c.offloads
 
+-- the first of these numbers that isn't in its range
 abbrev pub first_bad : List Judged → Option (Field × ℕ)
 first_bad [] = None
 first_bad (number ∷ numbers) = if number.2 then first_bad numbers else Some (number.0, number.1)
 
--- the first number that is out of its range, by name and value
+-- the first number of a node that is out of its range, by name and value
 abbrev pub bad_number_of : NodeConfig → Option (Field × ℕ)
 bad_number_of c = first_bad (judged c)
 

@@ -8,7 +8,7 @@ use Rattle.std.specs.declared.cmp.Ordering.{Ordering}
 abbrev pub Place : Type 0
 Place = ℕ × ℕ
 
--- by space, and then by number
+-- places are in order by space, and then by number
 abbrev pub place_cmp : Place → Place → Ordering
 place_cmp a b = ordering_then (nat_cmp a.0 b.0) (nat_cmp a.1 b.1)
 
@@ -20,6 +20,7 @@ is_process space = leb 1 space && leb space 65279
 abbrev pub bucket_counts : List ℕ
 bucket_counts = map (λ k. 2 ^ k) (1 ∷ 2 ∷ 3 ∷ 4 ∷ 5 ∷ 6 ∷ 7 ∷ 8 ∷ 9 ∷ 10 ∷ 11 ∷ 12 ∷ 13 ∷ 14 ∷ 15 ∷ 16 ∷ [])
 
+-- a page table may have so many buckets
 abbrev pub is_bucket_count : ℕ → Bool
 is_bucket_count n = list_any (λ count. count == n) bucket_counts
 

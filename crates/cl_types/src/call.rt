@@ -27,7 +27,7 @@ pub enum AtomicOp {
     Cas { expect: u64, put: u64 },
 }
 
-/// The kinds of requests.
+/// The kinds of requests. Their numbers in a frame are 1 to 6 in this order.
 #[derive(Clone, Copy, Debug, PartialEq, Eq)]
 pub enum Kind {
     Alloc,

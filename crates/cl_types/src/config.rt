@@ -34,7 +34,7 @@ pub struct NodeConfig {
     pub ring: u64,
     /// How many replies it keeps for retries: 1 to 65,536.
     pub retry: u64,
-    /// At most 16.
+    /// Its offloads, at most 16.
     pub offloads: OffloadList,
 }
 
@@ -42,6 +42,7 @@ pub struct NodeConfig {
 #[derive(Drop)]
 pub struct Config {
     pub node: NodeConfig,
+    /// Those of a schedule are 1 to 64, each with a number of its own.
     pub clients: ClientList,
 }
 
@@ -58,12 +59,14 @@ pub enum Field {
     Records,
 }
 
+/// Whether the number is in its range, both ends counted.
 fn is_from_to(low: u64, high: u64, n: u64) -> bool
     ensures { result ≡ is_within low high n }
 {
     low <= n && n <= high
 }
 
+/// Whether a page table may have so many buckets.
 fn may_be_buckets(n: u64) -> bool
     ensures { result ≡ is_bucket_count n }
 {
@@ -87,6 +90,7 @@ fn may_be_buckets(n: u64) -> bool
     )
 }
 
+/// The first number of records that is out of its range.
 fn bad_record_count(offloads: &[OffloadConfig]) -> Option<(Field, u64)>
     ensures { result ≡ first_bad (judged_offloads offloads.now) }
 {

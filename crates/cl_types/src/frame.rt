@@ -34,7 +34,7 @@ pub enum FieldName {
 /// Why bytes spell no frame; the first fault that holds is told.
 #[derive(Clone, Copy, Debug, PartialEq, Eq)]
 pub enum BadFrame {
-    /// There are `have` bytes, fewer than the head or the whole frame needs.
+    /// There are `have` bytes, fewer than the `need` of the head or of the whole frame.
     Short { have: usize, need: usize },
     /// The first two bytes aren't those of a frame.
     Magic,
@@ -42,7 +42,7 @@ pub enum BadFrame {
     Version(u8),
     /// This is no kind of the frames that the reader takes.
     Kind(u8),
-    /// There are `have` bytes, more than the frame needs.
+    /// There are `have` bytes, more than the `need` of the frame.
     Long { have: usize, need: usize },
     /// This field is out of its range.
     Field(FieldName),
@@ -67,8 +67,8 @@ pub enum IssueFault {
     /// A Read or a Write has no bytes, or an Alloc or a Free no pages.
     Empty,
     /// A Read or a Write has more than 65,536 bytes, an Alloc or a Free more than 1,024 pages, or an Offload more
-    /// than 1,024 bytes either way. `len` is the number that is too large, at most 2^32 - 1; the sent bytes of an
-    /// Offload come before its buffer.
+    /// than 1,024 bytes either way. `len` is the number that is too large, or 2^32 - 1 where it is greater still; the
+    /// sent bytes of an Offload come before its buffer.
     TooLong { len: u32 },
     /// The address plus `len` bytes (8 of an Atomic, 4,096 for each page of a Free) is above 2^28.
     BadAddress { addr: Addr, len: u32 },

@@ -149,3 +149,20 @@ pub struct Entry {
 
 /// Entries, in the order of line and position.
 pub type EntryList = Items<Entry>;
+
+/// What a replay counts.
+#[derive(Clone, Copy, Debug, PartialEq, Eq)]
+pub struct Summary {
+    /// The calls that were issued.
+    pub issued: u32,
+    /// Of these, those whose answer was Done.
+    pub done: u32,
+    /// Of these, those whose answer was Refused.
+    pub refused: u32,
+    /// Of these, those whose answer was TimedOut.
+    pub timed_out: u32,
+    /// Of these, those that haven't ended.
+    pub unended: u32,
+    /// The entries of the history.
+    pub entries: u32,
+}

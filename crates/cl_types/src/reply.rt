@@ -39,7 +39,7 @@ pub enum Reply {
     Got(Bytes),
 }
 
-/// A reply that borrows its bytes.
+/// A reply that borrows its bytes. The variants are those of `Reply`.
 #[derive(Clone, Copy)]
 pub enum ReplyRef<'a> {
     Refused(Refusal),

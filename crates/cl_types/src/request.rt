@@ -44,7 +44,7 @@ pub enum Request {
     },
 }
 
-/// A request that borrows its bytes, from a frame or from a call.
+/// A request that borrows its bytes, from a frame or from a call. The ranges are those of `Request`.
 #[derive(Clone, Copy)]
 pub enum RequestRef<'a> {
     Alloc {

@@ -5,14 +5,14 @@ use crate::config::Config;
 use crate::items::{Bytes, Items};
 use crate::numbers::{Addr, ClientNo, Pid};
 
-/// Bytes, `times` times over.
+/// Bytes, `times` times over: at most 70,000 in all.
 #[derive(Drop)]
 pub struct Written {
     pub bytes: Bytes,
     pub times: u32,
 }
 
-/// A call, as its line has it.
+/// A call, as its line has it. Its numbers may be out of the ranges of a call, which are judged when it is issued.
 #[derive(Drop)]
 pub enum CallText {
     Alloc {
@@ -107,7 +107,7 @@ pub enum What {
     ClientExpected,
     /// A second node line, an offload line behind a client line, or a client line behind an event.
     OutOfPlace,
-    /// The line's first word, an offload's kind or a call's word is none of the tables.
+    /// The line's first word, an offload's kind or a call's word is in none of the tables.
     UnknownWord,
     /// The line has too few words.
     MissingWord,
@@ -135,6 +135,7 @@ pub enum What {
     EndExpected,
     /// The end line has not its form, or another number than that of the entries.
     BadCount,
-    /// The entry's line has not its form, doesn't rise, or its request or reply is out of range.
+    /// The entry's line has not its form, the lines and positions of the entries don't rise, or the request or reply
+    /// is out of its range.
     BadEntry,
 }

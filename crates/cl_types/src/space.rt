@@ -6,6 +6,7 @@ ghost use Rattle.cl_types.specs.Spaces.{IsInOnePage};
 
 use crate::items::NoMemory;
 use std::alloc::Global;
+use std::marker::Model;
 
 /// Pages of bytes. An access stays within one page, always succeeds, and leaves the space honest and its rest as it was.
 pub trait Space {
@@ -44,18 +45,27 @@ pub trait Space {
         ensures honest { honest self.new };
 }
 
-/// A space in memory, for tests. It is always honest, and has no rest.
+/// A space in memory, for tests. It is always honest, and has no rest. A clause sees it as its bytes.
 #[derive(Drop)]
 pub struct MemorySpace {
     bytes: Vec<u8>,
     pages: u32,
-    ghost whole: { length bytes.items ≡ pages * 4096 },
+}
+
+impl Model for MemorySpace {
+    ghost use Rattle.std.specs.Prelude.{◌≡◌, ℕ, ◌*◌, List, length};
+
+    ghost Value = { List ℕ };
+
+    ghost view = { λ space. space.bytes.items };
+
+    ghost invariant = { λ space. length space.bytes.items ≡ space.pages * 4096 };
 }
 
 impl MemorySpace {
     /// So many pages of zeros.
     pub fn create(alloc: Global, pages: u32) -> Result<MemorySpace, NoMemory>
-        ensures { IfOk result (λ space. space.bytes.items ≡ zeros (pages * 4096)) }
+        ensures { IfOk result (λ space. space ≡ zeros (pages * 4096)) }
     {
         let mut bytes = Vec::new(alloc);
         bytes.resize(pages as usize * 4096, 0)?;
@@ -66,7 +76,7 @@ impl MemorySpace {
 impl Space for MemorySpace {
     ghost honest = { λ _. Unit {0} };
 
-    ghost contents = { λ space. space.bytes.items };
+    ghost contents = { λ space. space };
 
     ghost Rest = { Unit {0} };
 

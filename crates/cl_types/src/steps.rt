@@ -24,7 +24,8 @@ impl<L: Ledger> Model for Steps<L> {
 }
 
 impl<L: Ledger> Steps<L> {
-    /// A counter at 0.
+    /// A counter at 0. A caller makes the blank by `Blank::new(1)` and passes `Brand` for `L`, to which its proof gives
+    /// the name of the blank.
     pub fn create(blank: Blank) -> Steps<L>
         requires name { blank.name ≡ L.name }
         requires parts { blank.parts ≡ L.parts }

@@ -18,6 +18,7 @@ Pairs = List (List ℕ × List ℕ)
 pub data Object : Type 0 where
   KvObject : (records : ℕ) → (pairs : Pairs) → Object
 
+-- the object of an offload as it is at the opening: it holds nothing
 abbrev pub empty_object : OffloadConfig → Object
 empty_object (Kv records) = KvObject records []
 
@@ -25,6 +26,7 @@ empty_object (Kv records) = KvObject records []
 abbrev pub Given : Type 0
 Given = Result (List ℕ × Object) Refusal
 
+-- keys are in order byte by byte, and a key stands before the longer ones that it begins
 abbrev pub key_cmp : List ℕ → List ℕ → Ordering
 key_cmp = slice_cmp nat_cmp
 
@@ -33,10 +35,12 @@ abbrev pub is_keyed : ℕ → List ℕ → Bool
 is_keyed most [] = false
 is_keyed most (n ∷ bytes) = leb 1 n && leb n 32 && leb n (length bytes) && leb (length bytes) (n + most)
 
+-- the key in an operation's bytes, as long as their first byte says
 abbrev pub key_in : List ℕ → List ℕ
 key_in [] = []
 key_in (n ∷ bytes) = take n bytes
 
+-- the bytes behind the key in an operation's bytes
 abbrev pub value_in : List ℕ → List ℕ
 value_in [] = []
 value_in (n ∷ bytes) = drop n bytes
@@ -47,10 +51,12 @@ kv_put records pairs key value =
     if not (is_some (find key_cmp key pairs)) && leb records (length pairs) then Err ObjectFull
     else Ok ([], KvObject records (put key_cmp key value pairs))
 
+-- a get answers the value that was found and changes nothing; a key that isn't there is refused
 abbrev pub kv_get : ℕ → Pairs → Option (List ℕ) → Given
 kv_get records pairs None = Err NoKey
 kv_get records pairs (Some value) = Ok (value, KvObject records pairs)
 
+-- a delete takes the key out with its value; a key that isn't there is refused
 abbrev pub kv_delete : ℕ → Pairs → List ℕ → Given
 kv_delete records pairs key =
     if is_some (find key_cmp key pairs)
@@ -66,5 +72,6 @@ kv_step records pairs op bytes =
     else if op == 4 && length bytes == 0 then Ok (to_be_bytes w32 (length pairs), KvObject records pairs)
     else Err BadOp
 
+-- what an operation with these bytes gives, by the kind of the object
 abbrev pub object_step : Object → ℕ → List ℕ → Given
 object_step (KvObject records pairs) op bytes = kv_step records pairs op bytes

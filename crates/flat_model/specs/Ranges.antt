@@ -2,6 +2,7 @@
 -- law needs a bound of a type, this is where it stands.
 use Rattle.std.specs.Prelude.{ℕ, ◌+◌, ◌^◌, ◌%◌, ◌==◌, Bool, true, ◌&&◌, leb, nat_lt, List, length}
 use Rattle.std.specs.List.{list_all}
+use Rattle.cl_types.specs.declared.limits.TheConstants.{ADDRESS_END, PAGE_BYTES, PART_BYTES, RANGE_PAGES, SPACE_PAGES}
 use Rattle.cl_types.specs.declared.call.AtomicOp.{AtomicOp}
 use Rattle.cl_types.specs.declared.call.AtomicOp.TheVariants.{Add, Cas}
 use Rattle.cl_types.specs.declared.numbers.Addr.{Addr}
@@ -14,12 +15,15 @@ use Rattle.cl_types.specs.declared.schedule.Event.TheVariants as event
 use Rattle.flat_model.specs.Pages.{page_of, offset_of}
 
 -- ---- of types
+-- each of the numbers is a byte, below 256
 abbrev pub are_bytes : List ℕ → Bool
 are_bytes bytes = list_all (λ b. nat_lt b 256) bytes
 
+-- the number is that of a word of 8 bytes, below 2^64
 abbrev pub is_word : ℕ → Bool
 is_word n = nat_lt n (2 ^ 64)
 
+-- the numbers of the operation are those of words of 8 bytes
 abbrev pub has_words : AtomicOp → Bool
 has_words (Add n) = is_word n
 has_words (Cas expect put) = is_word expect && is_word put
@@ -42,22 +46,24 @@ is_typed (event.Call client call) = is_typed_call call
 is_typed other = true
 
 -- ---- of requests
+-- the address is below 2^28, where a space ends
 abbrev pub is_good_address : Addr → Bool
-is_good_address addr = nat_lt addr.0 (2 ^ 28)
+is_good_address addr = nat_lt addr.0 ADDRESS_END
 
--- n bytes, at least one and at most 1,024, stay within the page of the address
+-- n bytes, at least one and at most those of a part, stay within the page of the address
 abbrev pub is_piece : Addr → ℕ → Bool
-is_piece addr n = is_good_address addr && leb 1 n && leb n 1024 && leb (offset_of addr + n) 4096
+is_piece addr n = is_good_address addr && leb 1 n && leb n PART_BYTES && leb (offset_of addr + n) PAGE_BYTES
 
+-- a range may have so many pages: 1 to 1,024
 abbrev pub is_page_count : ℕ → Bool
-is_page_count n = leb 1 n && leb n 1024
+is_page_count n = leb 1 n && leb n RANGE_PAGES
 
 -- the request is one that a frame can carry
 abbrev pub is_in_range : Request → Bool
 is_in_range (request.Alloc n perm) = is_page_count n
-is_in_range (request.Free addr n) = is_good_address addr && (offset_of addr == 0) && is_page_count n && leb (page_of addr + n) 65536
+is_in_range (request.Free addr n) = is_good_address addr && (offset_of addr == 0) && is_page_count n && leb (page_of addr + n) SPACE_PAGES
 is_in_range (request.Read addr n) = is_piece addr n
 is_in_range (request.Write addr bytes) = is_piece addr (length bytes) && are_bytes bytes
 is_in_range (request.Atomic addr op) = is_good_address addr && (addr.0 % 8 == 0) && has_words op
 is_in_range (request.Offload number op out bytes) =
-    nat_lt number 256 && nat_lt op 256 && leb out 1024 && leb (length bytes) 1024 && are_bytes bytes
+    nat_lt number 256 && nat_lt op 256 && leb out PART_BYTES && leb (length bytes) PART_BYTES && are_bytes bytes

@@ -3,6 +3,7 @@ use Rattle.std.specs.Prelude.{ℕ, zero, suc, ◌+◌, Bool, true, false, ◌&&�
 use Rattle.std.specs.List.{list_all, list_any, range_with_len}
 use Rattle.std.specs.Ordering.{eq_by_cmp}
 use Rattle.std.specs.FinMap.Entries.{find}
+use Rattle.cl_types.specs.declared.limits.TheConstants.{BUCKET_PAGES, SPACE_PAGES}
 use Rattle.cl_types.specs.Bytes.{fresh_bytes}
 use Rattle.cl_types.specs.Config.{offload_pages}
 use Rattle.cl_types.specs.Places.{Place, place_cmp, homes_at}
@@ -16,6 +17,7 @@ pub record Page : Type 0 where
   pub perm : Perm
   pub bytes : Option (List ℕ)
 
+-- the state: the mapped pages, the allocated ranges, the objects, and what the opening fixed
 pub record FlatState : Type 0 where
   -- the mapped pages of all processes, in the order of their places
   pub map : List (Place × Page)
@@ -34,7 +36,7 @@ held_from k [] = []
 held_from k (offload ∷ offloads) =
     map (λ page. (65280 + k, page)) (range_with_len 1 (offload_pages offload)) ++ held_from (k + 1) offloads
 
--- no page is mapped, and the objects are empty
+-- the state at the opening: no page is mapped, and the objects are empty
 abbrev pub opening : NodeConfig → FlatState
 opening c = record {
   map = [];
@@ -46,6 +48,7 @@ opening c = record {
 }
 
 -- ---- what is read off a state
+-- the page of this number that is mapped for the process, where one is
 abbrev pub page_at : FlatState → ℕ → ℕ → Option Page
 page_at s pid page = find place_cmp (pid, page) s.map
 
@@ -53,11 +56,11 @@ page_at s pid page = find place_cmp (pid, page) s.map
 abbrev pub bytes_of : Page → List ℕ
 bytes_of page = elim page.bytes [ None ↦ fresh_bytes | Some bytes ↦ bytes ]
 
--- the mapped pages and those of the offloads
+-- the places of all pages: the mapped ones and those of the offloads
 abbrev pub places : FlatState → List Place
 places s = map (λ entry. entry.0) s.map ++ s.held
 
--- how many of them have this home
+-- how many of all pages have this home
 abbrev pub load : FlatState → ℕ → ℕ
 load s home = homes_at s.buckets home (places s)
 
@@ -66,10 +69,11 @@ abbrev pub used : FlatState → ℕ
 used s = count_by (λ entry. is_some entry.1.bytes) s.map + length s.held
 
 -- ---- where a range fits
--- the places of a range
+-- the places of a range: n pages of a process from start on
 abbrev pub places_of : ℕ → ℕ → ℕ → List Place
 places_of pid start n = map (λ page. (pid, page)) (range_with_len start n)
 
+-- the place is one of these
 abbrev pub is_mapped : List Place → Place → Bool
 is_mapped places place = list_any (eq_by_cmp place_cmp place) places
 
@@ -77,9 +81,9 @@ is_mapped places place = list_any (eq_by_cmp place_cmp place) places
 -- hold more than four.
 abbrev pub fits : ℕ → List Place → ℕ → ℕ → ℕ → Bool
 fits buckets places pid start n =
-    leb 1 start && leb (start + n) 65536
+    leb 1 start && leb (start + n) SPACE_PAGES
     && list_all (λ place. not (is_mapped places place)) (places_of pid start n)
-    && list_all (λ home. leb (homes_at buckets home places + homes_at buckets home (places_of pid start n)) 4) (range_with_len 0 buckets)
+    && list_all (λ home. leb (homes_at buckets home places + homes_at buckets home (places_of pid start n)) BUCKET_PAGES) (range_with_len 0 buckets)
 
 -- the least start that fits, of so many from this one on
 abbrev pub least_from : ℕ → List Place → ℕ → ℕ → ℕ → ℕ → Option ℕ

@@ -1,8 +1,9 @@
 -- One step of the flat machine.
-use Rattle.std.specs.Prelude.{ℕ, ◌+◌, ◌*◌, ◌≡◌, ◌==◌, Bool, true, false, ◌&&◌, not, leb, nat_lt, List, [], ◌∷◌, take, if◌then◌else◌, Option, Some, None, is_none, Ok, Err, slice_get, slice_set, IsTrue}
+use Rattle.std.specs.Prelude.{ℕ, ◌+◌, ◌*◌, ◌≡◌, ◌==◌, Bool, true, false, ◌&&◌, not, leb, nat_lt, List, [], ◌∷◌, take, Option, Some, None, is_none, Ok, Err, slice_get, slice_set, IsTrue}
 use Rattle.std.specs.Int.{to_le_bytes, w64}
 use Rattle.std.specs.FinMap.Entries.{find, put, where_key}
 use Rattle.std.specs.Ordering.{eq_by_cmp}
+use Rattle.cl_types.specs.declared.limits.TheConstants.{PAGE_BYTES}
 use Rattle.cl_types.specs.Bytes.{bytes_at, with_bytes}
 use Rattle.cl_types.specs.Places.{Place, place_cmp}
 use Rattle.cl_types.specs.declared.numbers.Addr.{Addr}
@@ -24,7 +25,7 @@ pub record Outcome : Type 0 where
   pub reply : Reply
   pub state : FlatState
 
--- a refusal changes nothing
+-- the outcome of a refusal, which changes nothing
 abbrev pub refused : FlatState → Refusal → Outcome
 refused s refusal = record { reply = Refused refusal; state = s }
 
@@ -46,7 +47,7 @@ abbrev pub has_pages : Option ℕ → ℕ → Bool
 has_pages None n = false
 has_pages (Some pages) n = pages == n
 
--- a range of exactly this start and this number of pages stands
+-- a range of exactly this start and this number of pages is allocated
 abbrev pub is_range : FlatState → ℕ → ℕ → ℕ → Bool
 is_range s pid start n = has_pages (find place_cmp (pid, start) s.ranges) n
 
@@ -61,35 +62,42 @@ unmapped s pid start n = record s {
   ranges = where_key place_cmp (λ place. not (eq_by_cmp place_cmp (pid, start) place)) s.ranges;
 }
 
+-- an Alloc answers the first address of the range at this start, and is refused where there is no start
 abbrev pub alloc_at : FlatState → ℕ → ℕ → Perm → Option ℕ → Outcome
 alloc_at s pid n perm None = refused s NoRange
-alloc_at s pid n perm (Some start) = record { reply = At (record { 0 = start * 4096 }); state = mapped s pid start n perm }
+alloc_at s pid n perm (Some start) = record { reply = At (record { 0 = start * PAGE_BYTES }); state = mapped s pid start n perm }
 
+-- an Alloc of n pages at the least start that fits
 abbrev pub alloc : FlatState → ℕ → ℕ → Perm → Outcome
 alloc s pid n perm = alloc_at s pid n perm (least s.buckets (places s) pid n)
 
+-- a Free takes the range out with its pages where it is allocated, and is refused where not
 abbrev pub free_if : FlatState → ℕ → ℕ → ℕ → Bool → Outcome
 free_if s pid start n true = record { reply = Nothing; state = unmapped s pid start n }
 free_if s pid start n false = refused s NoMapping
 
+-- a Free of the range that begins with the address's page and has n pages
 abbrev pub free : FlatState → ℕ → Addr → ℕ → Outcome
 free s pid addr n = free_if s pid (page_of addr) n (is_range s pid (page_of addr) n)
 
 -- ---- the bytes of a page
+-- a page with this permission may be read
 abbrev pub may_read : Perm → Bool
 may_read ReadOnly = true
 may_read WriteOnly = false
 may_read ReadWrite = true
 
+-- a page with this permission may be written
 abbrev pub may_write : Perm → Bool
 may_write ReadOnly = false
 may_write WriteOnly = true
 may_write ReadWrite = true
 
+-- a page with this permission may be read and written, as an atomic needs
 abbrev pub may_change : Perm → Bool
 may_change perm = may_read perm && may_write perm
 
--- a page has these bytes
+-- the state with these bytes as those of the page
 abbrev pub written : FlatState → ℕ → ℕ → Page → List ℕ → FlatState
 written s pid number page bytes = record s { map = put place_cmp (pid, number) (record page { bytes = Some bytes }) s.map }
 
@@ -97,10 +105,12 @@ written s pid number page bytes = record s { map = put place_cmp (pid, number) (
 abbrev pub is_out_of_pages : FlatState → Page → Bool
 is_out_of_pages s page = is_none page.bytes && leb s.pages (used s)
 
+-- the outcome where the permission allows it, and else a refusal
 abbrev pub if_allowed : FlatState → Bool → Outcome → Outcome
 if_allowed s false outcome = refused s NoPermission
 if_allowed s true outcome = outcome
 
+-- goes on with the page that was found and has the permission; that it is mapped is asked first
 abbrev pub on_found : FlatState → (Perm → Bool) → (Page → Outcome) → Option Page → Outcome
 on_found s may go None = refused s NoMapping
 on_found s may go (Some page) = if_allowed s (may page.perm) (go page)
@@ -109,6 +119,7 @@ on_found s may go (Some page) = if_allowed s (may page.perm) (go page)
 abbrev pub on_page : FlatState → ℕ → Addr → (Perm → Bool) → (Page → Outcome) → Outcome
 on_page s pid addr may go = on_found s may go (page_at s pid (page_of addr))
 
+-- the outcome unless it lacks a physical page, for which it is refused
 abbrev pub if_pages_last : FlatState → Bool → Outcome → Outcome
 if_pages_last s true outcome = refused s NoPage
 if_pages_last s false outcome = outcome
@@ -122,12 +133,15 @@ abbrev pub puts : FlatState → ℕ → Addr → Page → List ℕ → Reply →
 puts s pid addr page bytes reply =
     record { reply = reply; state = written s pid (page_of addr) page (with_bytes (offset_of addr) bytes (bytes_of page)) }
 
+-- a Read answers the n bytes from the address on
 abbrev pub read : FlatState → ℕ → Addr → ℕ → Outcome
 read s pid addr n = on_page s pid addr may_read (λ page. record { reply = Got (bytes_at (offset_of addr) n (bytes_of page)); state = s })
 
+-- a Write puts its bytes into the page from the address on
 abbrev pub write : FlatState → ℕ → Addr → List ℕ → Outcome
 write s pid addr bytes = on_bytes s pid addr may_write (λ page. puts s pid addr page bytes Nothing)
 
+-- an atomic answers the old word of 8 bytes and puts the new one in its place; it fills a fresh page in any case
 abbrev pub atomic : FlatState → ℕ → Addr → AtomicOp → Outcome
 atomic s pid addr op = on_bytes s pid addr may_change (λ page.
     let word = word_at (offset_of addr) (bytes_of page) in
@@ -140,10 +154,12 @@ given s number out (Err refusal) = refused s refusal
 given s number out (Ok (answer, object)) =
     record { reply = Got (take out answer); state = record s { objects = slice_set s.objects number object } }
 
+-- what an operation of the object that was found comes to, and a refusal where there is no such offload
 abbrev pub on_object : FlatState → ℕ → ℕ → ℕ → List ℕ → Option Object → Outcome
 on_object s number op out bytes None = refused s NoOffload
 on_object s number op out bytes (Some object) = given s number out (object_step object op bytes)
 
+-- an Offload is one operation of the object of this number, and answers at most out bytes
 abbrev pub offload : FlatState → ℕ → ℕ → ℕ → List ℕ → Outcome
 offload s number op out bytes = on_object s number op out bytes (slice_get s.objects number)
 

@@ -8,7 +8,9 @@
 #![tactic(auto)]
 
 pub mod flat;
+pub mod frame_laws;
 pub mod open_fault;
+pub mod run_laws;
 pub mod opening;
 mod buckets;
 pub mod check;

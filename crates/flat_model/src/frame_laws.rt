@@ -1,0 +1,39 @@
+//! Laws of frames: functions that do nothing, each with a law as its contract.
+
+ghost use Rattle.flat_model.specs.FrameLaws.{RequestsAreReadAgain, BytesSpellOneRequest, FaultlessRequestsAreSpelled, RepliesAreReadAgain, BytesSpellOneReply, FaultlessRepliesAreSpelled, NoRequestIsAReply};
+
+/// Bytes that spell a request have no fault, and a node that reads them finds the head and the body that were spelled.
+pub fn requests_are_read_again()
+    ensures { RequestsAreReadAgain }
+{}
+
+/// Bytes spell at most one request, under one head.
+pub fn bytes_spell_one_request()
+    ensures { BytesSpellOneRequest }
+{}
+
+/// Bytes in which a node finds no fault spell the request that it reads in them.
+pub fn faultless_requests_are_spelled()
+    ensures { FaultlessRequestsAreSpelled }
+{}
+
+/// Bytes that spell a reply have no fault, and a client that reads them finds the head, the kind and the body that
+/// were spelled.
+pub fn replies_are_read_again()
+    ensures { RepliesAreReadAgain }
+{}
+
+/// Bytes spell at most one reply, of one kind and under one head.
+pub fn bytes_spell_one_reply()
+    ensures { BytesSpellOneReply }
+{}
+
+/// Bytes in which a client finds no fault spell the reply that it reads in them, of some kind.
+pub fn faultless_replies_are_spelled()
+    ensures { FaultlessRepliesAreSpelled }
+{}
+
+/// No bytes spell both a request and a reply.
+pub fn no_request_is_a_reply()
+    ensures { NoRequestIsAReply }
+{}
