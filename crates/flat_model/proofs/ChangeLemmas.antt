@@ -6,7 +6,7 @@ use Rattle.std.specs.FinMap.Entries.{put, is_sorted, is_sorted-put}
 use Rattle.cl_types.specs.Places.{Place, place_cmp}
 use Rattle.flat_model.specs.State.{Page}
 use Rattle.flat_model.specs.Rows.{with_changed}
-use Rattle.flat_model.proofs.PlaceLemmas.{place_total}
+use Rattle.cl_types.proofs.PlaceLemmas.{place_total}
 use Rattle.flat_model.proofs.PutLemmas.{T_of, of_T, put_at}
 
 -- an entry written at its index is one put at its place

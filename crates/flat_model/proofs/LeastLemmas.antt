@@ -5,7 +5,7 @@ use Rattle.std.proofs.lemmas.Bool.{cases_lt}
 use Rattle.std.proofs.Math.Nat.{eq-or-lt_of_le}
 use Rattle.cl_types.specs.Places.{Place}
 use Rattle.flat_model.specs.State.{fits, least, least_from}
-use Rattle.flat_model.specs.LeastStart.{IsLeastStart, LeastStartIsTheLeast, NoStartFitsWhereThereIsNone, FitsNowhere}
+use Rattle.flat_model.specs.StartLaws.{IsLeastStart, LeastStartIsTheLeast, NoStartFitsWhereThereIsNone, FitsNowhere}
 
 -- a number from another on is that one or above
 nat_cases : (m n : ℕ) → m ≤ n → (m ≡ n) ⊎ (m + 1 ≤ n)

@@ -25,6 +25,5 @@ pub mod LeastLemmas
 pub mod ObjectLemmas
 pub mod OpenLemmas
 pub mod OpeningLemmas
-pub mod PlaceLemmas
 pub mod PutLemmas
 pub mod RangeLemmas

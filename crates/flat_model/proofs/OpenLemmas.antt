@@ -13,7 +13,7 @@ use Rattle.flat_model.specs.declared.need.Need.{Need}
 use Rattle.flat_model.specs.State.{FlatState, Page, page_at}
 use Rattle.flat_model.specs.Step.{Outcome, refused, on_found, if_allowed, if_pages_last, on_bytes, is_out_of_pages}
 use Rattle.flat_model.proofs.EntryLemmas.{at_position, not_found}
-use Rattle.flat_model.proofs.PlaceLemmas.{place_exact}
+use Rattle.cl_types.proofs.PlaceLemmas.{place_exact}
 
 module _ (s : FlatState) (pid : ℕ) (addr : Addr) (need : Need) where
   -- with the page's bytes, if it may have them

@@ -33,4 +33,4 @@ pub mod RunLaws
 pub mod FrameLaws
 pub mod Rows
 pub mod Checks
-pub mod LeastStart
+pub mod StartLaws

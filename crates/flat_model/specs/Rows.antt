@@ -2,6 +2,7 @@
 use Rattle.std.specs.Prelude.{ℕ, ◌+◌, ◌≤◌, leb, ◌++◌, map, ◌≡◌, ◌==◌, ◌↔◌, Bool, ◌&&◌, List, Option, Some, None, Result, Ok, Err, slice_get, if◌then◌else◌, IsTrue}
 use Rattle.std.specs.Ordering.{eq_by_cmp}
 use Rattle.std.specs.FinMap.Entries.{is_sorted, put}
+use Rattle.cl_types.specs.declared.limits.TheConstants.{BUCKET_PAGES}
 use Rattle.cl_types.specs.Places.{Place, place_cmp, home_of, homes_at, is_bucket_count}
 use Rattle.cl_types.specs.declared.call.Perm.{Perm}
 use Rattle.flat_model.specs.declared.need.Need.{Need}
@@ -24,11 +25,11 @@ keys entries = map (λ entry. entry.0) entries
 
 -- no bucket has more than four of these pages
 abbrev pub AreFourAtMost : ℕ → List Place → Type 0
-AreFourAtMost buckets places = (home : ℕ) → homes_at buckets home places ≤ 4
+AreFourAtMost buckets places = (home : ℕ) → homes_at buckets home places ≤ BUCKET_PAGES
 
 -- the bucket of a page has room for these pages
 abbrev pub has_room_at : FlatState → List Place → Place → Bool
-has_room_at s pages page = leb (load s (home_of s.buckets page) + homes_at s.buckets (home_of s.buckets page) pages) 4
+has_room_at s pages page = leb (load s (home_of s.buckets page) + homes_at s.buckets (home_of s.buckets page) pages) BUCKET_PAGES
 
 -- the permission is enough for what is to be done
 abbrev pub allows : Need → Perm → Bool

@@ -16,6 +16,7 @@ use crate::replies::{is_nothing, is_refusal, is_word};
 use crate::page::MappedPage;
 use cl_types::call::{AtomicOp, Perm};
 use cl_types::items::NoMemory;
+use cl_types::limits::{ADDRESS_END, PAGE_BYTES};
 use cl_types::numbers::{Addr, Pid};
 use cl_types::request::Request;
 use crate::ranges::may_be_sent;
@@ -25,19 +26,19 @@ use cl_types::reply::{Refusal, Reply};
 
 // Whether the reply is what the page has there.
 fn shows(page: &MappedPage, addr: Addr, len: u16, reply: &Reply) -> bool
-    requires { offset_of addr + len ≤ 4096 }
+    requires { offset_of addr + len ≤ PAGE_BYTES }
     ensures { IsTrue result ↔ (reply.now ≡ Reply.Got (bytes_at (offset_of addr) len (bytes_of page.now))) }
 {
     match reply {
-        Reply::Got(bytes) => page.shows((addr.0 % 4096) as usize, len as usize, bytes.as_slice()),
+        Reply::Got(bytes) => page.shows((addr.0 % PAGE_BYTES) as usize, len as usize, bytes.as_slice()),
         _ => false,
     }
 }
 
 // Whether the machine gives this reply to a read.
 fn replies_to_read(flat: &Flat, pid: u16, addr: Addr, len: u16, reply: &Reply) -> bool
-    requires good { addr.0 < 2 ^ 28 }
-    requires within { offset_of addr + len ≤ 4096 }
+    requires good { addr.0 < ADDRESS_END }
+    requires within { offset_of addr + len ≤ PAGE_BYTES }
     ensures { IsTrue result ↔ (reply.now ≡ (read flat.now pid addr len).reply) }
 {
     match flat.page(pid, addr) {
@@ -84,8 +85,8 @@ fn check_write(
     bytes: &[u8],
     reply: &Reply,
 ) -> Result<bool, NoMemory>
-    requires good { addr.0 < 2 ^ 28 }
-    requires within { offset_of addr + length bytes.now ≤ 4096 }
+    requires good { addr.0 < ADDRESS_END }
+    requires within { offset_of addr + length bytes.now ≤ PAGE_BYTES }
     ensures checks { IfOk result (λ may. Checks flat.old (write flat.old pid addr bytes.now) reply.now may flat.new) }
     ensures unchanged { OnErr result (flat.new ≡ flat.old) }
 {
@@ -95,7 +96,7 @@ fn check_write(
             if !is_nothing(reply) {
                 return Ok(false);
             }
-            flat.put(alloc, i, (addr.0 % 4096) as usize, bytes)?;
+            flat.put(alloc, i, (addr.0 % PAGE_BYTES) as usize, bytes)?;
             Ok(true)
         }
     }
@@ -110,15 +111,15 @@ fn check_atomic(
     op: AtomicOp,
     reply: &Reply,
 ) -> Result<bool, NoMemory>
-    requires good { addr.0 < 2 ^ 28 }
-    requires within { offset_of addr + 8 ≤ 4096 }
+    requires good { addr.0 < ADDRESS_END }
+    requires within { offset_of addr + 8 ≤ PAGE_BYTES }
     ensures checks { IfOk result (λ may. Checks flat.old (atomic flat.old pid addr op) reply.now may flat.new) }
     ensures unchanged { OnErr result (flat.new ≡ flat.old) }
 {
     match flat.open(pid, addr, Need::Change) {
         Err(refusal) => Ok(is_refusal(reply, refusal)),
         Ok(i) => {
-            let at = (addr.0 % 4096) as usize;
+            let at = (addr.0 % PAGE_BYTES) as usize;
             let word = flat.nth(i).word(at);
             if !is_word(reply, word) {
                 return Ok(false);
@@ -131,7 +132,7 @@ fn check_atomic(
 
 // The same of a Free.
 fn check_free(flat: &mut Flat, pid: u16, addr: Addr, pages: u16, reply: &Reply) -> bool
-    requires { addr.0 < 2 ^ 28 }
+    requires { addr.0 < ADDRESS_END }
     ensures { Checks flat.old (free flat.old pid addr pages) reply.now result flat.new }
 {
     if !flat.is_range(pid, addr, pages) {
@@ -149,7 +150,7 @@ fn is_start(flat: &Flat, pid: u16, addr: Addr, pages: u16) -> bool
     requires { 1 ≤ pages }
     ensures { IsTrue result ↔ MayAlloc flat.now pid pages (Reply.At addr) }
 {
-    addr.0 % 4096 == 0 && flat.fits(pid, addr.0 / 4096, pages)
+    addr.0 % PAGE_BYTES == 0 && flat.fits(pid, addr.0 / PAGE_BYTES, pages)
 }
 
 // Whether an Alloc may be refused.
@@ -179,7 +180,7 @@ fn check_alloc(
             if !is_start(flat, pid, *addr, pages) {
                 return Ok(false);
             }
-            flat.map(pid, (addr.0 / 4096) as u16, pages, perm)?;
+            flat.map(pid, (addr.0 / PAGE_BYTES) as u16, pages, perm)?;
             Ok(true)
         }
         Reply::Refused(Refusal::NoRange) => Ok(has_no_start(flat, pid, pages)),

@@ -19,6 +19,7 @@ use crate::page::MappedPage;
 use crate::rows::{Place, position_of, take_out, take_out_pages, value_of};
 use crate::store::KvStore;
 use cl_types::items::NoMemory;
+use cl_types::limits::{ADDRESS_END, PAGE_BYTES};
 use cl_types::numbers::Addr;
 use cl_types::reply::Refusal;
 use std::alloc::Global;
@@ -80,10 +81,10 @@ impl Flat {
 
     /// The page of an address, where it is mapped for the process.
     pub(crate) fn page(&self, pid: u16, addr: Addr) -> Option<&MappedPage>
-        requires { addr.0 < 2 ^ 28 }
+        requires { addr.0 < ADDRESS_END }
         ensures { option_copied result ≡ page_at self.now pid (page_of addr) }
     {
-        value_of(&self.map, (pid, (addr.0 / 4096) as u16))
+        value_of(&self.map, (pid, (addr.0 / PAGE_BYTES) as u16))
     }
 
     // Whether no physical page is free.
@@ -102,10 +103,10 @@ impl Flat {
     }
 
     fn position(&self, pid: u16, addr: Addr) -> Option<usize>
-        requires { addr.0 < 2 ^ 28 }
+        requires { addr.0 < ADDRESS_END }
         ensures { result ≡ position (is_at (pid, page_of addr)) self.now.map }
     {
-        position_of(&self.map, (pid, (addr.0 / 4096) as u16))
+        position_of(&self.map, (pid, (addr.0 / PAGE_BYTES) as u16))
     }
 
     /// The page of an entry.
@@ -118,7 +119,7 @@ impl Flat {
 
     /// Where the page stands that is to get bytes, or why it gets none.
     pub(crate) fn open(&self, pid: u16, addr: Addr, need: Need) -> Result<usize, Refusal>
-        requires { addr.0 < 2 ^ 28 }
+        requires { addr.0 < ADDRESS_END }
         ensures { Opens self.now pid addr (allows need) result }
     {
         match self.position(pid, addr) {
@@ -138,10 +139,10 @@ impl Flat {
 
     /// Whether a range of exactly this start and this number of pages stands.
     pub(crate) fn is_range(&self, pid: u16, addr: Addr, pages: u16) -> bool
-        requires { addr.0 < 2 ^ 28 }
+        requires { addr.0 < ADDRESS_END }
         ensures { result ≡ is_range self.now pid (page_of addr) pages }
     {
-        match value_of(&self.ranges, (pid, (addr.0 / 4096) as u16)) {
+        match value_of(&self.ranges, (pid, (addr.0 / PAGE_BYTES) as u16)) {
             None => false,
             Some(n) => *n == pages,
         }

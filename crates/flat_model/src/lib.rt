@@ -14,7 +14,7 @@ pub mod run_laws;
 pub mod opening;
 mod buckets;
 pub mod check;
-pub mod laws;
+pub mod start_laws;
 mod need;
 mod page;
 mod pairs;

@@ -16,6 +16,8 @@ use crate::rows::Place;
 use crate::store::KvStore;
 use cl_types::config::{NodeConfig, OffloadConfig, bad_number, pages_of};
 use cl_types::items::NoMemory;
+use cl_types::limits::BUCKET_PAGES;
+use cl_types::numbers::LAST_PID;
 use std::alloc::Global;
 
 impl From<NoMemory> for OpenFault {
@@ -53,16 +55,16 @@ fn fit(config: &NodeConfig, held: &[Place]) -> bool
 
 fn each_has_four_at_most(buckets: u32, held: &[Place]) -> bool
     requires { IsTrue (is_bucket_count buckets) }
-    ensures { result ≡ list_all (λ place. leb (homes_at buckets (home_of buckets place) held.now) 4) held.now }
+    ensures { result ≡ list_all (λ place. leb (homes_at buckets (home_of buckets place) held.now) BUCKET_PAGES) held.now }
 {
     held.iter()
-        .all(|place| places_at(held, buckets, home_at(buckets, *place)) <= 4)
+        .all(|place| places_at(held, buckets, home_at(buckets, *place)) <= BUCKET_PAGES as usize)
 }
 
 // A bucket with none of the pages has none too many, so the buckets of the pages are enough.
 fn are_four_at_most(buckets: u32, held: &[Place]) -> bool
     requires { IsTrue (is_bucket_count buckets) }
-    ensures { result ≡ list_all (λ home. leb (homes_at buckets home held.now) 4) (range_with_len 0 buckets) }
+    ensures { result ≡ list_all (λ home. leb (homes_at buckets home held.now) BUCKET_PAGES) (range_with_len 0 buckets) }
 {
     each_has_four_at_most(buckets, held)
 }
@@ -88,7 +90,7 @@ fn held_pages(alloc: Global, config: &NodeConfig) -> Result<Vec<Place>, OpenFaul
     let count = offload_count(config);
     for k in 0..count {
         let pages = page_count(config, k as usize);
-        add_pages(&mut held, 65_280 + k as u16, pages)?;
+        add_pages(&mut held, LAST_PID + 1 + k as u16, pages)?;
         if !fit(config, &held) {
             return Err(OpenFault::NoRoom { offload: k, pages });
         }

@@ -10,10 +10,11 @@ ghost use Rattle.flat_model.specs.State.{bytes_of};
 
 use cl_types::call::Perm;
 use cl_types::items::NoMemory;
+use cl_types::limits::PAGE_BYTES;
 use std::alloc::Global;
 use std::marker::Model;
 
-/// A mapped page: what may be done with it, and its 4,096 bytes, or none where it is fresh.
+/// A mapped page: what may be done with it, and its `PAGE_BYTES` bytes, or none where it is fresh.
 #[derive(Drop)]
 pub struct MappedPage {
     perm: Perm,
@@ -22,13 +23,14 @@ pub struct MappedPage {
 
 impl Model for MappedPage {
     ghost use Rattle.std.specs.Prelude.{◌≡◌, IfSome, length, option_map};
+    ghost use Rattle.cl_types.specs.declared.limits.TheConstants.{PAGE_BYTES};
     ghost use Rattle.flat_model.specs.State.{Page};
 
     ghost Value = { Page };
 
     ghost view = { λ page. record { perm = page.perm; bytes = option_map (λ bytes. bytes.items) page.bytes } };
 
-    ghost invariant = { λ page. IfSome page.bytes (λ bytes. length bytes.items ≡ 4096) };
+    ghost invariant = { λ page. IfSome page.bytes (λ bytes. length bytes.items ≡ PAGE_BYTES) };
 }
 
 fn are_zeros(bytes: &[u8]) -> bool
@@ -69,7 +71,7 @@ impl MappedPage {
     /// Whether these are its `n` bytes from a place on.
     #[tactic(auto, using(crate::proofs::FreshLemmas::fresh_piece))]
     pub fn shows(&self, at: usize, n: usize, shown: &[u8]) -> bool
-        requires within { at + n ≤ 4096 }
+        requires within { at + n ≤ PAGE_BYTES }
         ensures { IsTrue result ↔ (shown.now ≡ bytes_at at n (bytes_of self.now)) }
     {
         match &self.bytes {
@@ -81,7 +83,7 @@ impl MappedPage {
     /// The word of 8 bytes from a place on.
     #[tactic(auto, using(crate::proofs::FreshLemmas::fresh_word))]
     pub fn word(&self, at: usize) -> u64
-        requires { at + 8 ≤ 4096 }
+        requires { at + 8 ≤ PAGE_BYTES }
         ensures { result ≡ word_at at (bytes_of self.now) }
     {
         match &self.bytes {
@@ -92,7 +94,7 @@ impl MappedPage {
 
     /// Puts bytes at a place. A fresh page has bytes from then on. Without memory it stays as it was.
     pub fn put(&mut self, alloc: Global, at: usize, bytes: &[u8]) -> Result<(), NoMemory>
-        requires { at + length bytes.now ≤ 4096 }
+        requires { at + length bytes.now ≤ PAGE_BYTES }
         ensures put { OnOk result (self.new ≡ with_put at bytes.now self.old) }
         ensures unchanged { OnErr result (self.new ≡ self.old) }
     {
@@ -126,9 +128,9 @@ fn so_many_zeros(alloc: Global, n: usize) -> Result<Vec<u8>, NoMemory>
 #[tactic(auto, using(crate::proofs::FreshLemmas::fresh_is_zeros, crate::proofs::FreshLemmas::length_fresh))]
 fn fresh_page(alloc: Global) -> Result<Vec<u8>, NoMemory>
     ensures bytes { IfOk result (λ bytes. bytes.items ≡ fresh_bytes) }
-    ensures size { IfOk result (λ bytes. length bytes.items ≡ 4096) }
+    ensures size { IfOk result (λ bytes. length bytes.items ≡ PAGE_BYTES) }
 {
-    so_many_zeros(alloc, 4096)
+    so_many_zeros(alloc, PAGE_BYTES as usize)
 }
 
 fn put_in(page: &mut Vec<u8>, at: usize, bytes: &[u8])

@@ -13,6 +13,7 @@ use crate::page::MappedPage;
 use crate::rows::{Place, put, take_out, take_out_pages};
 use cl_types::call::Perm;
 use cl_types::items::NoMemory;
+use cl_types::limits::{ADDRESS_END, PAGE_BYTES, SPACE_PAGES};
 use cl_types::numbers::Addr;
 use std::alloc::Global;
 
@@ -25,7 +26,7 @@ fn put_in_row(
 ) -> Result<(), NoMemory>
     requires order { IsTrue (is_sorted place_cmp map.old.items) }
     requires entry { i < length map.old.items }
-    requires within { at + length bytes.now ≤ 4096 }
+    requires within { at + length bytes.now ≤ PAGE_BYTES }
     ensures put { OnOk result (map.new.items ≡ with_changed (with_put at bytes.now) (slice_get map.old.items i) map.old.items) }
     ensures keys { keys map.new.items ≡ keys map.old.items }
     ensures order { IsTrue (is_sorted place_cmp map.new.items) }
@@ -39,7 +40,7 @@ fn put_in_row(
 // Puts fresh pages at their places, the last first. There is room for them.
 fn put_fresh(map: &mut Vec<(Place, MappedPage)>, pid: u16, start: u16, n: u16, perm: Perm)
     requires order { IsTrue (is_sorted place_cmp map.old.items) }
-    requires within { start + n ≤ 65536 }
+    requires within { start + n ≤ SPACE_PAGES }
     requires room { vec_len map.old + n ≤ vec_capacity map.old }
     ensures put { map.new.items ≡ with_fresh perm (places_of pid start n) map.old.items }
     ensures order { IsTrue (is_sorted place_cmp map.new.items) }
@@ -60,7 +61,7 @@ impl Flat {
         bytes: &[u8],
     ) -> Result<(), NoMemory>
         requires entry { i < length self.old.map }
-        requires within { at + length bytes.now ≤ 4096 }
+        requires within { at + length bytes.now ≤ PAGE_BYTES }
         ensures put { OnOk result (self.new ≡ put_bytes self.old i at bytes.now) }
         ensures unchanged { OnErr result (self.new ≡ self.old) }
     {
@@ -70,10 +71,10 @@ impl Flat {
 
     /// Takes out the range and its pages.
     pub(crate) fn unmap(&mut self, pid: u16, addr: Addr, pages: u16)
-        requires { addr.0 < 2 ^ 28 }
+        requires { addr.0 < ADDRESS_END }
         ensures { self.new ≡ unmapped self.old pid (page_of addr) pages }
     {
-        let start = (addr.0 / 4096) as u16;
+        let start = (addr.0 / PAGE_BYTES) as u16;
         take_out_pages(&mut self.map, pid, start, pages);
         take_out(&mut self.ranges, (pid, start));
     }

@@ -10,6 +10,7 @@ ghost use Rattle.flat_model.specs.State.{fits, is_mapped, least, load, places, p
 use crate::buckets::{home_at, places_at};
 use crate::flat::Flat;
 use crate::page::MappedPage;
+use cl_types::limits::{BUCKET_PAGES, SPACE_PAGES};
 use crate::rows::{Place, is_same};
 use cl_types::numbers::{Space16, Vpn};
 use cl_types::page::home;
@@ -48,7 +49,7 @@ fn one_at(buckets: u32, bucket: u32, place: Place) -> usize
 #[tactic(auto, using(crate::proofs::FitLemmas::homes_next))]
 fn pages_at(buckets: u32, bucket: u32, pid: u16, start: u16, n: u16) -> usize
     requires count { IsTrue (is_bucket_count buckets) }
-    requires within { start + n ≤ 65536 }
+    requires within { start + n ≤ SPACE_PAGES }
     ensures { result ≡ homes_at buckets bucket (places_of pid start n) }
 {
     let mut found = 0;
@@ -58,10 +59,11 @@ fn pages_at(buckets: u32, bucket: u32, pid: u16, start: u16, n: u16) -> usize
     found
 }
 
-fn is_up_to_four(a: usize, b: usize, c: usize) -> bool
-    ensures { result ≡ leb (a + b + c) 4 }
+fn fit_in_a_bucket(a: usize, b: usize, c: usize) -> bool
+    ensures { result ≡ leb (a + b + c) BUCKET_PAGES }
 {
-    a <= 4 && b <= 4 && c <= 4 && a + b + c <= 4
+    let most = BUCKET_PAGES as usize;
+    a <= most && b <= most && c <= most && a + b + c <= most
 }
 
 impl Flat {
@@ -104,7 +106,7 @@ impl Flat {
     }
 
     fn new_at(&self, bucket: u32, pid: u16, start: u16, n: u16) -> usize
-        requires { start + n ≤ 65536 }
+        requires { start + n ≤ SPACE_PAGES }
         ensures { result ≡ homes_at self.now.buckets bucket (places_of pid start n) }
     {
         pages_at(self.buckets, bucket, pid, start, n)
@@ -112,11 +114,11 @@ impl Flat {
 
     // Whether the bucket of a page has room for these pages of a process.
     fn has_room(&self, page: Place, pid: u16, start: u16, n: u16) -> bool
-        requires { start + n ≤ 65536 }
+        requires { start + n ≤ SPACE_PAGES }
         ensures { result ≡ has_room_at self.now (places_of pid start n) page }
     {
         let bucket = self.home(page);
-        is_up_to_four(
+        fit_in_a_bucket(
             self.mapped_at(bucket),
             self.held_at(bucket),
             self.new_at(bucket, pid, start, n),
@@ -124,7 +126,7 @@ impl Flat {
     }
 
     fn are_free(&self, pid: u16, start: u16, n: u16) -> bool
-        requires { start + n ≤ 65536 }
+        requires { start + n ≤ SPACE_PAGES }
         ensures { result ≡ list_all (λ place. not (is_mapped (places self.now) place)) (places_of pid start n) }
     {
         for i in 0..n {
@@ -136,7 +138,7 @@ impl Flat {
     }
 
     fn has_room_for_each(&self, pid: u16, start: u16, n: u16) -> bool
-        requires { start + n ≤ 65536 }
+        requires { start + n ≤ SPACE_PAGES }
         ensures { result ≡ list_all (has_room_at self.now (places_of pid start n)) (places_of pid start n) }
     {
         for i in 0..n {
@@ -149,8 +151,8 @@ impl Flat {
 
     // Whether each bucket has room. No bucket has more than four pages yet, so those of the new pages are enough.
     fn have_room(&self, pid: u16, start: u16, n: u16) -> bool
-        requires { start + n ≤ 65536 }
-        ensures { result ≡ list_all (λ home. leb (load self.now home + homes_at self.now.buckets home (places_of pid start n)) 4) (range_with_len 0 self.now.buckets) }
+        requires { start + n ≤ SPACE_PAGES }
+        ensures { result ≡ list_all (λ home. leb (load self.now home + homes_at self.now.buckets home (places_of pid start n)) BUCKET_PAGES) (range_with_len 0 self.now.buckets) }
     {
         let _ = &self.buckets;
         self.has_room_for_each(pid, start, n)
@@ -162,7 +164,7 @@ impl Flat {
         requires small { start < 2 ^ 31 }
         ensures { result ≡ fits self.now.buckets (places self.now) pid start n }
     {
-        if start < 1 || start + u32::from(n) > 65_536 {
+        if start < 1 || start + u32::from(n) > SPACE_PAGES {
             return false;
         }
         self.are_free(pid, start as u16, n) && self.have_room(pid, start as u16, n)
@@ -173,7 +175,7 @@ impl Flat {
         requires { 1 ≤ n }
         ensures { result ≡ least self.now.buckets (places self.now) pid n }
     {
-        for start in 1..65_536u32 {
+        for start in 1..SPACE_PAGES {
             if self.fits(pid, start, n) {
                 return Some(start);
             }

@@ -1,6 +1,6 @@
 use Rattle.std.proofs.Common.{sym}
 use Rattle.cl_types.specs.Places.{place_cmp}
-use Rattle.flat_model.proofs.PlaceLemmas.{place_total, place_exact}
+use Rattle.cl_types.proofs.PlaceLemmas.{place_total, place_exact}
 use Rattle.flat_model.proofs.PutLemmas.{sorted_put}
 use Rattle.flat_model.proofs.EntryLemmas.{set_is_put, set_is_sorted, inserted_is_put}
 use Rattle.flat_model.proofs.rows.put.Goals as goal

@@ -1,6 +1,6 @@
 //! Laws over the definitions.
 
-ghost use Rattle.flat_model.specs.LeastStart.{LeastStartIsTheLeast, NoStartFitsWhereThereIsNone};
+ghost use Rattle.flat_model.specs.StartLaws.{LeastStartIsTheLeast, NoStartFitsWhereThereIsNone};
 
 /// What is found as the least start is the least at which the pages fit.
 #[tactic(auto, using(crate::proofs::LeastLemmas::least_start_is_the_least))]
