@@ -69,8 +69,8 @@ module _ (b : ℕ) (test : ℕ → ℕ → Bool) (empty : (home : ℕ) → test 
     step : (t : Bool) → (home_of b page == home) ≡ t → (homes_at b home some ≡ 0) ⊎ (of_bucket home ≡ true) → (homes_at b home (page ∷ some) ≡ 0) ⊎ (of_bucket home ≡ true)
     step true is rest = let same : home_of b page ≡ home = grind (arith, nat_tests) in inr (subst (λ h. of_bucket h ≡ true) same (first_of_both _ _ all))
     step false is rest = ⊎_elim
-      (λ none. inl (sum_by-cons (λ place. cond (home_of b place == home) 1 0) page some ∙ ap (λ t. cond t 1 0 + homes_at b home some) is ∙ omega (arith, none)))
-      (λ passes. inr passes) rest
+        (λ none. inl (sum_by-cons (λ place. cond (home_of b place == home) 1 0) page some ∙ ap (λ t. cond t 1 0 + homes_at b home some) is ∙ omega (arith, none)))
+        (λ passes. inr passes) rest
 
   bucket_passes : (home : ℕ) → list_all of_page pages ≡ true → of_bucket home ≡ true
   bucket_passes home all = ⊎_elim (λ none. ap (test home) none ∙ empty home) (λ passes. passes) (bucket_of pages home all)

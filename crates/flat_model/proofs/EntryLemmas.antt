@@ -81,8 +81,7 @@ module _ {K V : Type 0} (R : K → K → Ordering) (key : K) where
     at_entry entries i v (Some entry) there at value =
         let same : entry.1 ≡ v = cc value in
         let read : get_or entries i entry ≡ entry = get_or_from_slice_get entries i entry entry there in
-        let here : is_of entry ≡ true = subst (λ e. is_of e ≡ true) read (position-Some is_of entries i entry at).1 in
-        (
+        let here : is_of entry ≡ true = subst (λ e. is_of e ≡ true) read (position-Some is_of entries i entry at).1 in (
           there ∙ ap (λ (e : K × V). Some e) (entry_is entry here ∙ ap (λ (w : V). (key, w)) same),
           found_at_position entries i entry at ∙ ap (λ (e : K × V). Some e.1) read ∙ ap (λ (w : V). Some w) same,
         )

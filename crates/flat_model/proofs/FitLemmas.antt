@@ -43,6 +43,7 @@ places_next pid start n i below =
   where
     later : start + i + 1 ≡ start + (i + 1)
     later = omega arith
+
     fewer : n - i - 1 ≡ n - (i + 1)
     fewer = omega arith
 
@@ -52,9 +53,9 @@ pub homes_next : (buckets home pid start n i found one total : ℕ) → i < n �
     → found + one + homes_at buckets home (places_of pid (start + (i + 1)) (n - (i + 1))) ≡ total
 homes_next buckets home pid start n i found one total below sum is =
     let next : homes_at buckets home (places_of pid (start + i) (n - i))
-      ≡ cond (home_of buckets (pid, start + i) == home) 1 0 + homes_at buckets home (places_of pid (start + (i + 1)) (n - (i + 1))) =
-      ap (homes_at buckets home) (places_next pid start n i below)
-      ∙ sum_by-cons (λ place. cond (home_of buckets place == home) 1 0) (pid, start + i) (places_of pid (start + (i + 1)) (n - (i + 1))) in
+    ≡ cond (home_of buckets (pid, start + i) == home) 1 0 + homes_at buckets home (places_of pid (start + (i + 1)) (n - (i + 1))) =
+    ap (homes_at buckets home) (places_next pid start n i below)
+    ∙ sum_by-cons (λ place. cond (home_of buckets place == home) 1 0) (pid, start + i) (places_of pid (start + (i + 1)) (n - (i + 1))) in
     omega (arith, sum, next, is)
 
 -- a test of every page or bucket, where the first passes or fails

@@ -35,11 +35,11 @@ module _ (b home : ℕ) where
       → homes_at b home (keys (where_key place_cmp test (e ∷ es))) ≤ homes_at b home (keys (e ∷ es))
   kept_step test e es true is rest =
       let kept : homes_at b home (keys (where_key place_cmp test (e ∷ es))) ≡ homes_at b home (keys (e ∷ where_key place_cmp test es)) =
-        ap (λ t. homes_at b home (keys (cond t (e ∷ where_key place_cmp test es) (where_key place_cmp test es)))) is in
+      ap (λ t. homes_at b home (keys (cond t (e ∷ where_key place_cmp test es) (where_key place_cmp test es)))) is in
       omega (arith, kept, homes_cons e.0 (keys (where_key place_cmp test es)), homes_cons e.0 (keys es), rest)
   kept_step test e es false is rest =
       let kept : homes_at b home (keys (where_key place_cmp test (e ∷ es))) ≡ homes_at b home (keys (where_key place_cmp test es)) =
-        ap (λ t. homes_at b home (keys (cond t (e ∷ where_key place_cmp test es) (where_key place_cmp test es)))) is in
+      ap (λ t. homes_at b home (keys (cond t (e ∷ where_key place_cmp test es) (where_key place_cmp test es)))) is in
       omega (arith, kept, homes_cons e.0 (keys es), rest)
 
   homes_kept : {V : Type 0} (test : Place → Bool) (es : List (Place × V)) → homes_at b home (keys (where_key place_cmp test es)) ≤ homes_at b home (keys es)
@@ -50,15 +50,15 @@ module _ (b home : ℕ) where
       → homes_at b home (keys (put place_cmp k v (e ∷ es))) ≤ one k + homes_at b home (keys (e ∷ es))
   put_step k v e es Less is rest =
       let new : homes_at b home (keys (put place_cmp k v (e ∷ es))) ≡ homes_at b home (k ∷ keys (e ∷ es)) =
-        ap (λ o. homes_at b home (keys (by_order o ((k, v) ∷ e ∷ es) ((e.0, v) ∷ es) (e ∷ put place_cmp k v es)))) is in
+      ap (λ o. homes_at b home (keys (by_order o ((k, v) ∷ e ∷ es) ((e.0, v) ∷ es) (e ∷ put place_cmp k v es)))) is in
       omega (arith, new, homes_cons k (keys (e ∷ es)))
   put_step k v e es Equal is rest =
       let new : homes_at b home (keys (put place_cmp k v (e ∷ es))) ≡ homes_at b home (keys (e ∷ es)) =
-        ap (λ o. homes_at b home (keys (by_order o ((k, v) ∷ e ∷ es) ((e.0, v) ∷ es) (e ∷ put place_cmp k v es)))) is in
+      ap (λ o. homes_at b home (keys (by_order o ((k, v) ∷ e ∷ es) ((e.0, v) ∷ es) (e ∷ put place_cmp k v es)))) is in
       omega (arith, new)
   put_step k v e es Greater is rest =
       let new : homes_at b home (keys (put place_cmp k v (e ∷ es))) ≡ homes_at b home (e.0 ∷ keys (put place_cmp k v es)) =
-        ap (λ o. homes_at b home (keys (by_order o ((k, v) ∷ e ∷ es) ((e.0, v) ∷ es) (e ∷ put place_cmp k v es)))) is in
+      ap (λ o. homes_at b home (keys (by_order o ((k, v) ∷ e ∷ es) ((e.0, v) ∷ es) (e ∷ put place_cmp k v es)))) is in
       omega (arith, new, homes_cons e.0 (keys (put place_cmp k v es)), homes_cons e.0 (keys es), rest)
 
   homes_put : {V : Type 0} (k : Place) (v : V) (es : List (Place × V)) → homes_at b home (keys (put place_cmp k v es)) ≤ one k + homes_at b home (keys es)
@@ -96,8 +96,15 @@ four_fresh s perm pid start n new count fit is home =
     let all : list_all (λ h. leb (homes_at s.buckets h (places s) + homes_at s.buckets h (places_of pid start n)) 4) (range_with_len 0 s.buckets) ≡ true = grind arith in
     let within : homes_at s.buckets home (places s ++ places_of pid start n) ≤ 4 = four_everywhere s.buckets (places s ++ places_of pid start n) home count (both_four s.buckets (places s) (places_of pid start n) all) in
     let same : homes_at s.buckets home (keys new) ≡ homes_at s.buckets home (keys (with_fresh perm (places_of pid start n) s.map)) = ap (λ es. homes_at s.buckets home (keys es)) is in
-    omega (arith, within, same, homes_both s.buckets home (keys new) s.held, homes_both s.buckets home (keys s.map) s.held,
-    homes_both s.buckets home (places s) (places_of pid start n), homes_fresh s.buckets home perm (places_of pid start n) s.map)
+    omega (
+      arith,
+      within,
+      same,
+      homes_both s.buckets home (keys new) s.held,
+      homes_both s.buckets home (keys s.map) s.held,
+      homes_both s.buckets home (places s) (places_of pid start n),
+      homes_fresh s.buckets home perm (places_of pid start n) s.map,
+    )
 
 -- where the keys stay, so do the buckets
 pub four_same : {V : Type 0} (b : ℕ) (old new : List (Place × V)) (held : List Place) → keys new ≡ keys old → AreFourAtMost b (keys old ++ held) → AreFourAtMost b (keys new ++ held)

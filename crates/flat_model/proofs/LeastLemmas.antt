@@ -89,8 +89,8 @@ least_start_is_the_least buckets places pid n start found =
     record {
       fitting = least.fitting;
       none_below = λ other passes. not_below start other (λ below.
-      let fails : fits buckets places pid other n ≡ false = least.none_below other (fits_within buckets places pid other n passes).0 below in
-      cc (passes, fails));
+          let fails : fits buckets places pid other n ≡ false = least.none_below other (fits_within buckets places pid other n passes).0 below in
+          cc (passes, fails));
     }
 
 -- a start that was found contradicts that the pages fit nowhere
@@ -101,10 +101,10 @@ nowhere_none buckets places pid n (Some start) is nowhere = absurd (nowhere star
 pub no_start_fits : NoStartFitsWhereThereIsNone
 no_start_fits buckets places pid n some = (
   λ none start passes.
-    let within : (1 ≤ start) × (start + n ≤ 65536) = fits_within buckets places pid start n passes in
-    let fails : fits buckets places pid start n ≡ false =
+      let within : (1 ≤ start) × (start + n ≤ 65536) = fits_within buckets places pid start n passes in
+      let fails : fits buckets places pid start n ≡ false =
       least_from_none buckets places pid n 1 65535 (sym (least_is buckets places pid n) ∙ none) start within.0 (omega (arith, within, some)) in
-    cc (passes, fails),
+      cc (passes, fails),
   λ nowhere. nowhere_none buckets places pid n (least buckets places pid n) refl nowhere,
 )
 

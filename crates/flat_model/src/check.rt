@@ -11,18 +11,17 @@ ghost use Rattle.flat_model.specs.Checks.{Checks, MayStep};
 ghost use Rattle.flat_model.specs.Run.{Step};
 
 use crate::flat::Flat;
-use crate::need::may_be_read;
-use crate::replies::{is_nothing, is_refusal, is_word};
+use crate::need::{Need, may_be_read};
 use crate::page::MappedPage;
+use crate::ranges::may_be_sent;
+use crate::replies::{is_nothing, is_refusal, is_word};
 use cl_types::call::{AtomicOp, Perm};
 use cl_types::items::NoMemory;
 use cl_types::limits::{ADDRESS_END, PAGE_BYTES};
 use cl_types::numbers::{Addr, Pid};
-use cl_types::request::Request;
-use crate::ranges::may_be_sent;
-use std::alloc::Global;
-use crate::need::Need;
 use cl_types::reply::{Refusal, Reply};
+use cl_types::request::Request;
+use std::alloc::Global;
 
 // Whether the reply is what the page has there.
 fn shows(page: &MappedPage, addr: Addr, len: u16, reply: &Reply) -> bool
@@ -30,7 +29,11 @@ fn shows(page: &MappedPage, addr: Addr, len: u16, reply: &Reply) -> bool
     ensures { IsTrue result ↔ (reply.now ≡ Reply.Got (bytes_at (offset_of addr) len (bytes_of page.now))) }
 {
     match reply {
-        Reply::Got(bytes) => page.shows((addr.0 % PAGE_BYTES) as usize, len as usize, bytes.as_slice()),
+        Reply::Got(bytes) => page.shows(
+            (addr.0 % PAGE_BYTES) as usize,
+            len as usize,
+            bytes.as_slice(),
+        ),
         _ => false,
     }
 }
@@ -57,22 +60,10 @@ fn next_word(op: AtomicOp, word: u64) -> u64
     ensures { result ≡ word_after op word }
 {
     match op {
-        AtomicOp::Lock => {
-            if word == 0 {
-                1
-            } else {
-                word
-            }
-        }
+        AtomicOp::Lock => { if word == 0 { 1 } else { word } }
         AtomicOp::Unlock => 0,
         AtomicOp::Add { n } => word.wrapping_add(n),
-        AtomicOp::Cas { expect, put } => {
-            if word == expect {
-                put
-            } else {
-                word
-            }
-        }
+        AtomicOp::Cas { expect, put } => { if word == expect { put } else { word } }
     }
 }
 
@@ -210,12 +201,14 @@ fn check_reply(
             check_write(alloc, flat, pid, *addr, bytes.as_slice(), reply)
         }
         Request::Atomic { addr, op } => check_atomic(alloc, flat, pid, *addr, *op, reply),
-        Request::Offload {
-            no,
-            op,
-            out,
-            bytes,
-        } => flat.check_offload(alloc, *no, *op, *out, bytes.as_slice(), reply),
+        Request::Offload { no, op, out, bytes } => flat.check_offload(
+            alloc,
+            *no,
+            *op,
+            *out,
+            bytes.as_slice(),
+            reply,
+        ),
     }
 }
 

@@ -7,18 +7,20 @@
 //! their crates.
 #![tactic(auto)]
 
-pub mod flat;
-pub mod frame_laws;
-pub mod open_fault;
-pub mod run_laws;
-pub mod opening;
 mod buckets;
 pub mod check;
-pub mod start_laws;
+pub mod flat;
+pub mod frame_laws;
 mod need;
+pub mod open_fault;
+pub mod opening;
 mod page;
 mod pairs;
 mod ranges;
 mod replies;
 mod rows;
+pub mod run_laws;
+pub mod start_laws;
 mod store;
+#[cfg(test)]
+mod tests;

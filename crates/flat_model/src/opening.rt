@@ -9,9 +9,9 @@ ghost use Rattle.flat_model.specs.Opening.{has_room, open_fault, pages_at, room_
 ghost use Rattle.flat_model.specs.Rows.{AreFourAtMost};
 ghost use Rattle.flat_model.specs.State.{held_from, opening};
 
+use crate::buckets::{home_at, places_at};
 use crate::flat::Flat;
 use crate::open_fault::OpenFault;
-use crate::buckets::{home_at, places_at};
 use crate::rows::Place;
 use crate::store::KvStore;
 use cl_types::config::{NodeConfig, OffloadConfig, bad_number, pages_of};
@@ -57,8 +57,8 @@ fn each_has_four_at_most(buckets: u32, held: &[Place]) -> bool
     requires { IsTrue (is_bucket_count buckets) }
     ensures { result ≡ list_all (λ place. leb (homes_at buckets (home_of buckets place) held.now) BUCKET_PAGES) held.now }
 {
-    held.iter()
-        .all(|place| places_at(held, buckets, home_at(buckets, *place)) <= BUCKET_PAGES as usize)
+    held.iter().all(|place| places_at(held, buckets, home_at(buckets, *place))
+        <= BUCKET_PAGES as usize)
 }
 
 // A bucket with none of the pages has none too many, so the buckets of the pages are enough.
@@ -132,11 +132,5 @@ pub fn create(alloc: Global, config: &NodeConfig) -> Result<Flat, OpenFault>
     }
     let held = held_pages(alloc, config)?;
     let objects = empty_objects(alloc, config.offloads.as_slice())?;
-    Ok(Flat::empty(
-        alloc,
-        objects,
-        held,
-        config.pages,
-        config.buckets as u32,
-    ))
+    Ok(Flat::empty(alloc, objects, held, config.pages, config.buckets as u32))
 }

@@ -65,12 +65,7 @@ fn copied(alloc: Global, bytes: &[u8]) -> Result<Bytes, NoMemory>
 }
 
 /// Puts a value at its key. Without memory all stays as it was.
-pub fn put(
-    alloc: Global,
-    pairs: &mut Vec<Pair>,
-    key: &[u8],
-    value: &[u8],
-) -> Result<(), NoMemory>
+pub fn put(alloc: Global, pairs: &mut Vec<Pair>, key: &[u8], value: &[u8]) -> Result<(), NoMemory>
     requires { IsTrue (is_sorted key_cmp pairs.old.items) }
     ensures put { OnOk result (pairs.new.items ≡ put_entry key_cmp key.now value.now pairs.old.items) }
     ensures order { IsTrue (is_sorted key_cmp pairs.new.items) }
@@ -85,12 +80,7 @@ pub fn put(
 }
 
 // Puts the value of a new key.
-fn insert(
-    alloc: Global,
-    pairs: &mut Vec<Pair>,
-    key: &[u8],
-    value: Bytes,
-) -> Result<(), NoMemory>
+fn insert(alloc: Global, pairs: &mut Vec<Pair>, key: &[u8], value: Bytes) -> Result<(), NoMemory>
     requires absent { position (λ pair. eq_by_cmp key_cmp key.now pair.0) pairs.old.items ≡ None }
     requires order { IsTrue (is_sorted key_cmp pairs.old.items) }
     ensures put { OnOk result (pairs.new.items ≡ put_entry key_cmp key.now value pairs.old.items) }

@@ -17,7 +17,9 @@ fn is_good(addr: Addr) -> bool
 fn is_one_piece(addr: Addr, n: usize) -> bool
     ensures { result ≡ is_piece addr n }
 {
-    is_good(addr) && 1 <= n && n <= PART_BYTES as usize
+    is_good(addr)
+        && 1 <= n
+        && n <= PART_BYTES as usize
         && (addr.0 % PAGE_BYTES) as usize + n <= PAGE_BYTES as usize
 }
 
@@ -67,11 +69,11 @@ pub fn may_be_sent(request: &Request) -> bool
         Request::Read { addr, len } => is_one_piece(*addr, *len as usize),
         Request::Write { addr, bytes } => is_good_write(*addr, bytes.as_slice()),
         Request::Atomic { addr, op } => is_good_word(*addr, *op),
-        Request::Offload {
-            no,
-            op,
-            out,
-            bytes,
-        } => is_good_operation(*no, *op, *out, bytes.as_slice()),
+        Request::Offload { no, op, out, bytes } => is_good_operation(
+            *no,
+            *op,
+            *out,
+            bytes.as_slice(),
+        ),
     }
 }

@@ -16,9 +16,7 @@ pub type Place = (u16, u16);
 pub fn position_of<V>(entries: &[(Place, V)], place: Place) -> Option<usize>
     ensures { result ≡ position (is_at place) entries.now }
 {
-    entries
-        .iter()
-        .position(|entry| is_same(place, entry.0))
+    entries.iter().position(|entry| is_same(place, entry.0))
 }
 
 /// The value of this place.

@@ -10,8 +10,8 @@ ghost use Rattle.flat_model.specs.State.{fits, is_mapped, least, load, places, p
 use crate::buckets::{home_at, places_at};
 use crate::flat::Flat;
 use crate::page::MappedPage;
-use cl_types::limits::{BUCKET_PAGES, SPACE_PAGES};
 use crate::rows::{Place, is_same};
+use cl_types::limits::{BUCKET_PAGES, SPACE_PAGES};
 use cl_types::numbers::{Space16, Vpn};
 use cl_types::page::home;
 
@@ -42,7 +42,11 @@ fn one_at(buckets: u32, bucket: u32, place: Place) -> usize
     ensures value { result ≡ (if home_of buckets place == bucket then 1 else 0) }
     ensures small { result ≤ 1 }
 {
-    if home_at(buckets, place) == bucket { 1 } else { 0 }
+    if home_at(buckets, place) == bucket {
+        1
+    } else {
+        0
+    }
 }
 
 // How many of these pages of a process have this home.

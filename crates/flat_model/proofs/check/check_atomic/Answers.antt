@@ -14,8 +14,8 @@ put-requires-clause-entry c = opened_within c.args.flat.now c.args.pid c.args.ad
 pub returns-in-Err-clause-checks : goal.returns-in-Err-clause-checks
 returns-in-Err-clause-checks c =
     checks_refused _ _ _ c.in-Err.refusal _ (c.in-Err.ensures (λ page.
-      let word = word_at (offset_of c.args.addr) (bytes_of page) in
-      puts c.args.flat.now c.args.pid c.args.addr page (to_le_bytes w64 (word_after c.args.op word)) (Word word))) c.is_refusal.ensures
+    let word = word_at (offset_of c.args.addr) (bytes_of page) in
+    puts c.args.flat.now c.args.pid c.args.addr page (to_le_bytes w64 (word_after c.args.op word)) (Word word))) c.is_refusal.ensures
 
 pub returns-then-not-is_word-clause-checks : goal.returns-then-not-is_word-clause-checks
 returns-then-not-is_word-clause-checks c =

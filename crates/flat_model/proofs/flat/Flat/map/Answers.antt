@@ -12,6 +12,6 @@ invariant_of-self-2 c = record {
   allocated = c.put.ensures.order;
   homes = c.self.invariant.homes;
   four = four_fresh (the_view c.self.inside) c.args.perm c.args.pid c.args.start c.args.n c.put_fresh.new.map.items c.self.invariant.homes
-    (subst (λ (s : FlatState). fits s.buckets (places s) c.args.pid c.args.start c.args.n ≡ true) (sym c.self.view_is) c.requires)
-    (c.put_fresh.ensures.put ∙ ap (λ (es : List (Place × Page)). with_fresh c.args.perm (places_of c.args.pid c.args.start c.args.n) es) c.reserve.ensures.items);
+      (subst (λ (s : FlatState). fits s.buckets (places s) c.args.pid c.args.start c.args.n ≡ true) (sym c.self.view_is) c.requires)
+      (c.put_fresh.ensures.put ∙ ap (λ (es : List (Place × Page)). with_fresh c.args.perm (places_of c.args.pid c.args.start c.args.n) es) c.reserve.ensures.items);
 }

@@ -9,5 +9,5 @@ invariant_of-self c = record {
   allocated = c.take_out.ensures.order c.self.invariant.allocated;
   homes = c.self.invariant.homes;
   four = four_kept c.self.inside.buckets (λ place. not (is_among c.args.pid (c.args.addr.0 / 4096) c.args.pages place)) c.self.inside.map.items c.take_out_pages.new.entries.items
-    c.self.inside.held.items c.take_out_pages.ensures.kept c.self.invariant.four;
+      c.self.inside.held.items c.take_out_pages.ensures.kept c.self.invariant.four;
 }
