@@ -11,6 +11,8 @@ use Rattle.cl_types.specs.declared.numbers.Addr.{Addr}
 use Rattle.cl_types.specs.declared.reply.Refusal.{Refusal}
 use Rattle.cl_types.specs.declared.reply.Reply.{Reply}
 use Rattle.flat_model.specs.Pages.{page_of}
+use Rattle.cl_types.specs.declared.config.NodeConfig.{NodeConfig}
+use Rattle.flat_model.specs.Opening.{held_by}
 use Rattle.flat_model.specs.Step.{Outcome, may_write, may_change, on_bytes, refused}
 use Rattle.flat_model.specs.State.{FlatState, Page, bytes_of, load}
 use Rattle.cl_types.specs.Bytes.{with_bytes}
@@ -30,6 +32,10 @@ AreFourAtMost buckets places = (home : ℕ) → homes_at buckets home places ≤
 -- the bucket of a page has room for these pages
 abbrev pub has_room_at : FlatState → List Place → Place → Bool
 has_room_at s pages page = leb (load s (home_of s.buckets page) + homes_at s.buckets (home_of s.buckets page) pages) BUCKET_PAGES
+
+-- the bucket of a page has room for the pages of the first k offloads
+abbrev pub has_room_among : NodeConfig → ℕ → Place → Bool
+has_room_among c k page = leb (homes_at c.buckets (home_of c.buckets page) (held_by c k)) BUCKET_PAGES
 
 -- the permission is enough for what is to be done
 abbrev pub allows : Need → Perm → Bool

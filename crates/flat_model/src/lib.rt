@@ -18,6 +18,7 @@ mod page;
 mod pairs;
 mod ranges;
 mod replies;
+mod room;
 mod rows;
 pub mod run_laws;
 pub mod start_laws;

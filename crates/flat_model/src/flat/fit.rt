@@ -1,19 +1,17 @@
 //! Where a range fits.
 
-ghost use Rattle.std.specs.Prelude.{◌≡◌, ◌+◌, ◌==◌, ◌<◌, ◌≤◌, ◌^◌, IsTrue, if◌then◌else◌, count_by, leb, map, not, option_map};
+ghost use Rattle.std.specs.Prelude.{◌≡◌, ◌+◌, ◌==◌, ◌<◌, ◌≤◌, ◌^◌, IsTrue, count_by, leb, map, not, option_map};
 ghost use Rattle.std.specs.List.{list_all, list_any, range_with_len};
 ghost use Rattle.std.specs.Ordering.{eq_by_cmp};
 ghost use Rattle.cl_types.specs.Places.{home_of, homes_at, is_bucket_count, place_cmp};
 ghost use Rattle.flat_model.specs.Rows.{has_room_at};
 ghost use Rattle.flat_model.specs.State.{fits, is_mapped, least, load, places, places_of};
 
-use crate::buckets::{home_at, places_at};
+use crate::buckets::{home_at, pages_at, places_at};
 use crate::flat::Flat;
 use crate::page::MappedPage;
 use crate::rows::{Place, is_same};
 use cl_types::limits::{BUCKET_PAGES, SPACE_PAGES};
-use cl_types::numbers::{Space16, Vpn};
-use cl_types::page::home;
 
 fn is_key(map: &[(Place, MappedPage)], place: Place) -> bool
     ensures { result ≡ list_any (λ entry. eq_by_cmp place_cmp place entry.0) map.now }
@@ -34,33 +32,6 @@ fn keys_at(map: &[(Place, MappedPage)], buckets: u32, bucket: u32) -> usize
     map.iter()
         .filter(|entry| home_at(buckets, entry.0) == bucket)
         .count()
-}
-
-// 1 for a page of this home, and 0 for another.
-fn one_at(buckets: u32, bucket: u32, place: Place) -> usize
-    requires { IsTrue (is_bucket_count buckets) }
-    ensures value { result ≡ (if home_of buckets place == bucket then 1 else 0) }
-    ensures small { result ≤ 1 }
-{
-    if home_at(buckets, place) == bucket {
-        1
-    } else {
-        0
-    }
-}
-
-// How many of these pages of a process have this home.
-#[tactic(auto, using(crate::proofs::FitLemmas::homes_next))]
-fn pages_at(buckets: u32, bucket: u32, pid: u16, start: u16, n: u16) -> usize
-    requires count { IsTrue (is_bucket_count buckets) }
-    requires within { start + n ≤ SPACE_PAGES }
-    ensures { result ≡ homes_at buckets bucket (places_of pid start n) }
-{
-    let mut found = 0;
-    for i in 0..n {
-        found += one_at(buckets, bucket, (pid, start + i));
-    }
-    found
 }
 
 fn fit_in_a_bucket(a: usize, b: usize, c: usize) -> bool

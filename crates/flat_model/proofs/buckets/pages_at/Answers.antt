@@ -1,6 +1,6 @@
 use Rattle.std.proofs.Common.{arith}
 use Rattle.flat_model.proofs.FitLemmas.{homes_next}
-use Rattle.flat_model.proofs.flat.fit.pages_at.Goals as goal
+use Rattle.flat_model.proofs.buckets.pages_at.Goals as goal
 
 pub loop-i-preserved : goal.loop-i-preserved
 loop-i-preserved c = record {

@@ -1,7 +1,7 @@
 use Rattle.std.proofs.Common.{◌≡◌, ◌+◌, ◌-◌, ◌≤◌}
 use Rattle.cl_types.specs.Places.{homes_at}
 use Rattle.flat_model.specs.State.{places_of}
-use Rattle.flat_model.proofs.flat.fit.pages_at.Given as goal
+use Rattle.flat_model.proofs.buckets.pages_at.Given as goal
 
 abbrev pub invariant-loop-i : goal.invariant-loop-i
 invariant-loop-i l = record {
