@@ -1,5 +1,5 @@
 -- What a checked write or atomic comes to.
-use Rattle.std.proofs.Common.{IfOk, Result, ◌≡◌, ◌<◌, ◌↔◌, ℕ, Bool, true, false, IsTrue, List, length, Option, Some, None, Ok, option_map, slice_get, refl, sym, ap, subst, ◌∙◌, arith, if◌then◌else◌}
+use Rattle.std.proofs.Common.{IfOk, OnErr, Result, Err, ◌≡◌, ◌<◌, ◌↔◌, ℕ, Bool, true, false, IsTrue, List, length, Option, Some, None, Ok, option_map, slice_get, refl, sym, ap, subst, ◌∙◌, arith, if◌then◌else◌}
 use Rattle.std.specs.Int.{to_le_bytes, w64}
 use Rattle.std.proofs.lemmas.Option.{slice_get_within}
 use Rattle.std.proofs.lemmas.Result.{IfOk-weaker}
@@ -22,6 +22,11 @@ use Rattle.flat_model.specs.Step.{MayReply, Outcome, refused, puts, read, write,
 same_either_way : {A : Type 0} (b : Bool) (x y : A) → x ≡ y → y ≡ (if b then x else y)
 same_either_way true x y same = sym same
 same_either_way false x y same = refl
+
+-- what holds, holds where there was no memory
+in_err : {P : Type 0} (result : Result Bool NoMemory) → P → OnErr result P
+in_err (Ok may) holds = tt
+in_err (Err fault) holds = holds
 
 module _ (s : FlatState) (outcome : Outcome) (reply : Reply) where
   -- a reply to a refused request
@@ -56,6 +61,9 @@ module _ (s : FlatState) (pid : ℕ) (addr : Addr) (i : ℕ) (bytes : List ℕ) 
       checks_same s (write s pid addr bytes) reply may new (write_test opens) passes
       (is ∙ put_is_puts s pid addr i opens.0 bytes Nothing opens.1 ∙ ap (λ (o : Outcome). o.state) (sym (opens.2 (λ page. puts s pid addr page bytes Nothing))))
 
+  pub wants_write : (result : Result Bool NoMemory) → Opens s pid addr may_write (Ok i) → may ≡ true → OnErr result (reply ≡ (write s pid addr bytes).reply)
+  wants_write result opens passes = in_err result ((write_test opens).0 passes)
+
   pub checks_no_write : Opens s pid addr may_write (Ok i) → may ≡ false → Checks s (write s pid addr bytes) reply false s
   checks_no_write opens fails = checks_other s (write s pid addr bytes) reply may (write_test opens) fails
 
@@ -89,6 +97,9 @@ module _ (s : FlatState) (pid : ℕ) (addr : Addr) (i : ℕ) (op : AtomicOp) (re
   checks_atomic new r passes is =
       checks_same s (atomic s pid addr op) reply may new (atomic_test r) passes
       (is ∙ put_is_puts s pid addr i r.opens.0 (to_le_bytes w64 (word_after op word)) (Word word) r.opens.1 ∙ ap (λ (o : Outcome). o.state) (sym (atomic_is r)))
+
+  pub wants_atomic : (result : Result Bool NoMemory) → Read → may ≡ true → OnErr result (reply ≡ (atomic s pid addr op).reply)
+  wants_atomic result r passes = in_err result ((atomic_test r).0 passes)
 
   pub checks_no_atomic : Read → may ≡ false → Checks s (atomic s pid addr op) reply false s
   checks_no_atomic r fails = checks_other s (atomic s pid addr op) reply may (atomic_test r) fails

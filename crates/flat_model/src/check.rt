@@ -79,6 +79,7 @@ fn check_write(
     requires good { addr.0 < ADDRESS_END }
     requires within { offset_of addr + length bytes.now ≤ PAGE_BYTES }
     ensures checks { IfOk result (λ may. Checks flat.old (write flat.old pid addr bytes.now) reply.now may flat.new) }
+    ensures wanted { OnErr result (reply.now ≡ (write flat.old pid addr bytes.now).reply) }
     ensures unchanged { OnErr result (flat.new ≡ flat.old) }
 {
     match flat.open(pid, addr, Need::Write) {
@@ -105,6 +106,7 @@ fn check_atomic(
     requires good { addr.0 < ADDRESS_END }
     requires within { offset_of addr + 8 ≤ PAGE_BYTES }
     ensures checks { IfOk result (λ may. Checks flat.old (atomic flat.old pid addr op) reply.now may flat.new) }
+    ensures wanted { OnErr result (reply.now ≡ (atomic flat.old pid addr op).reply) }
     ensures unchanged { OnErr result (flat.new ≡ flat.old) }
 {
     match flat.open(pid, addr, Need::Change) {
@@ -164,6 +166,7 @@ fn check_alloc(
     requires { 1 ≤ pages }
     ensures allowed { IfOk result (λ may. IsTrue may ↔ MayAlloc flat.old pid pages reply.now) }
     ensures after { IfOk result (λ may. flat.new ≡ (if may then alloc_after flat.old pid pages perm reply.now else flat.old)) }
+    ensures wanted { OnErr result (MayAlloc flat.old pid pages reply.now) }
     ensures unchanged { OnErr result (flat.new ≡ flat.old) }
 {
     match reply {
@@ -191,6 +194,7 @@ fn check_reply(
     requires { IsTrue (is_in_range request.now) }
     ensures allowed { IfOk result (λ may. IsTrue may ↔ MayReply flat.old pid request.now reply.now) }
     ensures after { IfOk result (λ may. flat.new ≡ (if may then state_after flat.old pid request.now reply.now else flat.old)) }
+    ensures wanted { OnErr result (MayReply flat.old pid request.now reply.now) }
     ensures unchanged { OnErr result (flat.new ≡ flat.old) }
 {
     match request {
@@ -225,6 +229,7 @@ pub fn check_step(
     ensures allowed { IfOk result (λ may. IsTrue may ↔ MayStep flat.old pid request.now reply.now) }
     ensures stepped { IfOk result (λ may. IsTrue may → Step flat.old pid request.now reply.now flat.new) }
     ensures refused { IfOk result (λ may. may ≡ false → flat.new ≡ flat.old) }
+    ensures wanted { OnErr result (MayStep flat.old pid request.now reply.now) }
     ensures unchanged { OnErr result (flat.new ≡ flat.old) }
 {
     if !may_be_sent(request) {

@@ -3,7 +3,7 @@
 ghost use Rattle.std.specs.Prelude.{◌≡◌, ◌≤◌, ◌==◌, ◌&&◌, ◌↔◌, IfOk, OnErr, IsTrue, [], is_some, leb, length, not, take};
 ghost use Rattle.std.specs.Int.{to_be_bytes, w32};
 ghost use Rattle.std.specs.FinMap.Entries.{find, is_sorted};
-ghost use Rattle.flat_model.specs.Checks.{ChecksObject};
+ghost use Rattle.flat_model.specs.Checks.{ChecksObject, reply_given};
 ghost use Rattle.flat_model.specs.Objects.{KvObject, is_keyed, key_cmp, key_in, kv_delete, kv_get, kv_put, kv_step, object_step, value_in};
 
 use crate::pairs::{Pair, put, take_out, value_of};
@@ -94,6 +94,7 @@ fn check_put(
 ) -> Result<bool, NoMemory>
     requires { IsTrue (is_sorted key_cmp pairs.old.items) }
     ensures checks { IfOk result (λ may. ChecksObject (KvObject records pairs.old.items) (kv_put records pairs.old.items (key_in bytes.now) (value_in bytes.now)) out reply.now may (KvObject records pairs.new.items)) }
+    ensures wanted { OnErr result (reply.now ≡ reply_given out (kv_put records pairs.old.items (key_in bytes.now) (value_in bytes.now))) }
     ensures order { IsTrue (is_sorted key_cmp pairs.new.items) }
     ensures unchanged { OnErr result (pairs.new.items ≡ pairs.old.items) }
 {
@@ -152,6 +153,7 @@ fn check_kv(
 ) -> Result<bool, NoMemory>
     requires { IsTrue (is_sorted key_cmp pairs.old.items) }
     ensures checks { IfOk result (λ may. ChecksObject (KvObject records pairs.old.items) (kv_step records pairs.old.items op bytes.now) out reply.now may (KvObject records pairs.new.items)) }
+    ensures wanted { OnErr result (reply.now ≡ reply_given out (kv_step records pairs.old.items op bytes.now)) }
     ensures order { IsTrue (is_sorted key_cmp pairs.new.items) }
     ensures unchanged { OnErr result (pairs.new.items ≡ pairs.old.items) }
 {
@@ -191,6 +193,7 @@ impl KvStore {
         reply: &Reply,
     ) -> Result<bool, NoMemory>
         ensures checks { IfOk result (λ may. ChecksObject self.old (object_step self.old op bytes.now) out reply.now may self.new) }
+        ensures wanted { OnErr result (reply.now ≡ reply_given out (object_step self.old op bytes.now)) }
         ensures unchanged { OnErr result (self.new ≡ self.old) }
     {
         check_kv(alloc, self.records, &mut self.pairs, op, bytes, out, reply)

@@ -1,7 +1,8 @@
 //! The objects of a flat machine.
 
 ghost use Rattle.std.specs.Prelude.{◌≡◌, ◌<◌, IfOk, OnErr, IfSome, length, slice_get};
-ghost use Rattle.flat_model.specs.Checks.{Checks, ChecksOne};
+ghost use Rattle.flat_model.specs.Checks.{Checks, ChecksOne, reply_given};
+ghost use Rattle.flat_model.specs.Objects.{object_step};
 ghost use Rattle.flat_model.specs.Step.{offload};
 
 use crate::flat::Flat;
@@ -22,6 +23,7 @@ fn check_one(
 ) -> Result<bool, NoMemory>
     requires { i < length objects.old.items }
     ensures checks { IfOk result (λ may. IfSome (slice_get objects.old.items i) (λ object. ChecksOne objects.old.items i object op bytes.now out reply.now may objects.new.items)) }
+    ensures wanted { OnErr result (IfSome (slice_get objects.old.items i) (λ object. reply.now ≡ reply_given out (object_step object op bytes.now))) }
     ensures unchanged { OnErr result (objects.new.items ≡ objects.old.items) }
 {
     let object = &mut objects[i];
@@ -47,6 +49,7 @@ impl Flat {
         reply: &Reply,
     ) -> Result<bool, NoMemory>
         ensures checks { IfOk result (λ may. Checks self.old (offload self.old number op out bytes.now) reply.now may self.new) }
+        ensures wanted { OnErr result (reply.now ≡ (offload self.old number op out bytes.now).reply) }
         ensures unchanged { OnErr result (self.new ≡ self.old) }
     {
         let i = number as usize;

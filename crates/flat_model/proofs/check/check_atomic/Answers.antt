@@ -1,6 +1,6 @@
 use Rattle.std.proofs.Common.{◌∙◌, sym, ap, true}
 use Rattle.std.specs.Int.{to_le_bytes, w64}
-use Rattle.flat_model.proofs.CheckLemmas.{Read, checks_refused, checks_atomic, checks_no_atomic, opened_within}
+use Rattle.flat_model.proofs.CheckLemmas.{Read, checks_refused, checks_atomic, checks_no_atomic, opened_within, wants_atomic}
 use Rattle.flat_model.specs.Pages.{offset_of, word_at, word_after}
 use Rattle.flat_model.specs.Rows.{put_bytes}
 use Rattle.flat_model.specs.State.{bytes_of}
@@ -27,3 +27,8 @@ returns-in_ok-put-in-Ok-clause-checks c =
     checks_atomic c.args.flat.now c.args.pid c.args.addr c.in-Ok.i c.args.op c.args.reply.now _ c.word-word.result c.nth.result.now _
     (record { opens = c.in-Ok.ensures; value = c.nth.ensures; is_word = c.word-word.ensures; test = c.is_word.ensures }) c.if-not-is_word.false
     (c.in_ok-put-in-Ok.ensures.put ∙ ap (put_bytes c.args.flat.now c.in-Ok.i (offset_of c.args.addr)) (c.to_le_bytes.ensures ∙ ap (to_le_bytes w64) c.next_word.ensures))
+
+pub returns-in_err-put-in-Ok-clause-wanted : goal.returns-in_err-put-in-Ok-clause-wanted
+returns-in_err-put-in-Ok-clause-wanted c =
+    wants_atomic c.args.flat.now c.args.pid c.args.addr c.in-Ok.i c.args.op c.args.reply.now _ c.word-word.result c.nth.result.now _
+    (record { opens = c.in-Ok.ensures; value = c.nth.ensures; is_word = c.word-word.ensures; test = c.is_word.ensures }) c.if-not-is_word.false

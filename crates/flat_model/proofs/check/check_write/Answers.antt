@@ -1,5 +1,5 @@
 use Rattle.std.proofs.Common.{◌∙◌, sym, ap}
-use Rattle.flat_model.proofs.CheckLemmas.{checks_refused, checks_write, checks_no_write, opened_within}
+use Rattle.flat_model.proofs.CheckLemmas.{checks_refused, checks_write, checks_no_write, opened_within, wants_write}
 use Rattle.flat_model.specs.Step.{may_write, puts}
 use Rattle.cl_types.specs.declared.reply.Reply.TheVariants.{Nothing}
 use Rattle.flat_model.proofs.check.check_write.Goals as goal
@@ -18,3 +18,7 @@ returns-then-not-is_nothing-clause-checks c =
 pub returns-in_ok-put-in-Ok-clause-checks : goal.returns-in_ok-put-in-Ok-clause-checks
 returns-in_ok-put-in-Ok-clause-checks c =
     checks_write c.args.flat.now c.args.pid c.args.addr c.in-Ok.i c.args.bytes.now c.args.reply.now _ c.is_nothing.ensures _ c.in-Ok.ensures c.if-not-is_nothing.false c.in_ok-put-in-Ok.ensures.put
+
+pub returns-in_err-put-in-Ok-clause-wanted : goal.returns-in_err-put-in-Ok-clause-wanted
+returns-in_err-put-in-Ok-clause-wanted c =
+    wants_write c.args.flat.now c.args.pid c.args.addr c.in-Ok.i c.args.bytes.now c.args.reply.now _ c.is_nothing.ensures _ c.in-Ok.ensures c.if-not-is_nothing.false
