@@ -2,7 +2,7 @@
 use Rattle.std.proofs.Common.{◌≡◌, ℕ, ◌<◌, List, length, get_or, Option, Some, None, true, slice_get, refl, sym, ap, ◌∙◌}
 use Rattle.std.proofs.Math.ListN.{set}
 use Rattle.std.proofs.lemmas.Option.{slice_get_read}
-use Rattle.std.specs.FinMap.Entries.{put, is_sorted, is_sorted-put}
+use Rattle.std.specs.FinMap.Entries.{is_sorted, is_sorted-put}
 use Rattle.cl_types.specs.Places.{Place, place_cmp}
 use Rattle.flat_model.specs.State.{Page}
 use Rattle.flat_model.specs.Rows.{with_changed}

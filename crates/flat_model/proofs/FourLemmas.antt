@@ -1,18 +1,17 @@
 -- That no bucket has more than four pages, through every change.
-use Rattle.std.proofs.Common.{◌≡◌, ℕ, zero, suc, ◌+◌, ◌<◌, ◌≤◌, ◌==◌, ◌&&◌, leb, None, Bool, true, false, not, cond, List, [], ◌∷◌, ◌++◌, length, map, get_or, refl, sym, ap, subst, ◌∙◌, arith}
+use Rattle.std.proofs.Common.{◌≡◌, ℕ, zero, suc, ◌+◌, ◌<◌, ◌≤◌, ◌==◌, ◌&&◌, leb, None, Bool, true, false, cond, List, [], ◌∷◌, ◌++◌, length, get_or, refl, sym, ap, subst, ◌∙◌, arith}
 use Rattle.std.proofs.Math.ListN.{set}
 use Rattle.std.specs.declared.cmp.Ordering.{Ordering}
 use Rattle.std.specs.declared.cmp.Ordering.TheVariants.{Less, Equal, Greater}
 use Rattle.std.specs.List.{list_all, range_with_len}
 use Rattle.std.specs.FinMap.Entries.{put, where_key, is_sorted, by_order}
-use Rattle.std.proofs.lemmas.Bool.Decides.{nat_tests}
 use Rattle.std.proofs.lemmas.List.Sums.{sum_by-append, sum_by-cons}
 use Rattle.cl_types.specs.Places.{Place, place_cmp, home_of, homes_at, is_bucket_count}
 use Rattle.cl_types.specs.declared.call.Perm.{Perm}
 use Rattle.flat_model.specs.Rows.{AreFourAtMost, AreInOrder, keys}
-use Rattle.flat_model.specs.State.{FlatState, Page, fits, load, places, places_of}
+use Rattle.flat_model.specs.State.{FlatState, Page, fits, places, places_of}
 use Rattle.flat_model.specs.Step.{with_fresh}
-use Rattle.flat_model.proofs.BucketLemmas.{each_bucket, first_of_both, four_everywhere, second_of_both}
+use Rattle.flat_model.proofs.BucketLemmas.{first_of_both, four_everywhere, second_of_both}
 
 -- an entry written at its index keeps the keys
 pub keys_set : {V : Type 0} (entries : List (Place × V)) (i : ℕ) (entry : Place × V) (v : V) → i < length entries → entry ≡ get_or entries i entry → keys (set entries i (entry.0, v)) ≡ keys entries

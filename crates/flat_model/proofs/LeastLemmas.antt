@@ -1,11 +1,11 @@
 -- The search for the least start that fits.
-use Rattle.std.proofs.Common.{Bool, true, false, ◌&&◌, ◌≡◌, ℕ, ◌+◌, ◌-◌, ◌<◌, ◌≤◌, ◌↔◌, ◌⊎◌, inl, inr, ⊎_elim, zero, suc, leb, List, Option, Some, None, refl, sym, ap, ◌∙◌, subst, arith, add-one}
+use Rattle.std.proofs.Common.{Bool, true, false, ◌≡◌, ℕ, ◌+◌, ◌-◌, ◌<◌, ◌≤◌, ◌⊎◌, inl, inr, ⊎_elim, zero, suc, List, Option, Some, None, refl, sym, ap, ◌∙◌, subst, arith}
 use Rattle.std.proofs.lemmas.Bool.Decides.{nat_tests}
 use Rattle.std.proofs.lemmas.Bool.{cases_lt}
 use Rattle.std.proofs.Math.Nat.{eq-or-lt_of_le}
 use Rattle.cl_types.specs.Places.{Place}
 use Rattle.flat_model.specs.State.{fits, least, least_from}
-use Rattle.flat_model.specs.StartLaws.{IsLeastStart, LeastStartIsTheLeast, NoStartFitsWhereThereIsNone, FitsNowhere}
+use Rattle.flat_model.specs.StartLaws.{LeastStartIsTheLeast, NoStartFitsWhereThereIsNone, FitsNowhere}
 
 -- a number from another on is that one or above
 nat_cases : (m n : ℕ) → m ≤ n → (m ≡ n) ⊎ (m + 1 ≤ n)

@@ -1,5 +1,5 @@
 -- What a checked operation of an object is of the whole machine.
-use Rattle.std.proofs.Common.{IfOk, IfSome, Result, ◌≡◌, ◌≤◌, ◌<◌, ◌↔◌, ℕ, zero, suc, Bool, true, false, IsTrue, List, [], ◌∷◌, length, get_or, take, Option, Some, None, Ok, Err, slice_get, slice_set, refl, sym, ap, subst, ◌∙◌, arith, if◌then◌else◌}
+use Rattle.std.proofs.Common.{IfOk, IfSome, Result, ◌≡◌, ◌≤◌, ◌<◌, ◌↔◌, ℕ, zero, suc, Bool, true, false, IsTrue, List, [], ◌∷◌, length, Option, Some, None, Ok, Err, slice_get, slice_set, refl, sym, ap, subst, ◌∙◌, arith, if◌then◌else◌}
 use Rattle.std.proofs.lemmas.Option.{slice_get_past}
 use Rattle.std.proofs.lemmas.Result.{IfOk-weaker}
 use Rattle.cl_types.specs.declared.items.NoMemory.{NoMemory}
@@ -9,7 +9,7 @@ use Rattle.cl_types.specs.declared.reply.Reply.TheVariants.{Refused}
 use Rattle.flat_model.specs.Checks.{Checks, ChecksObject, ChecksOne, reply_given, object_given}
 use Rattle.flat_model.specs.Objects.{Object, Given, object_step}
 use Rattle.flat_model.specs.State.{FlatState}
-use Rattle.flat_model.specs.Step.{Outcome, given, offload, on_object, refused}
+use Rattle.flat_model.specs.Step.{Outcome, given, offload, on_object}
 use Rattle.flat_model.proofs.CheckLemmas.{checks_refused}
 
 set_same : {A : Type 0} (xs : List A) (i : ℕ) (x : A) → slice_get xs i ≡ Some x → slice_set xs i x ≡ xs

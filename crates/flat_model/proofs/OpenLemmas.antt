@@ -1,16 +1,14 @@
 -- What going on with a page comes to, in each case.
-use Rattle.std.proofs.Common.{◌≡◌, ℕ, Bool, true, false, Option, Some, None, Ok, option_map, slice_get, refl, sym, ap, ◌∙◌}
+use Rattle.std.proofs.Common.{◌≡◌, ℕ, Bool, true, false, Some, None, Ok, option_map, slice_get, ap, ◌∙◌}
 use Rattle.std.specs.List.{position}
-use Rattle.std.specs.FinMap.Entries.{find}
 use Rattle.cl_types.specs.Places.{Place, place_cmp}
-use Rattle.cl_types.specs.declared.call.Perm.{Perm}
 use Rattle.cl_types.specs.declared.numbers.Addr.{Addr}
 use Rattle.cl_types.specs.declared.reply.Refusal.TheVariants.{NoMapping, NoPermission, NoPage}
 use Rattle.flat_model.specs.Pages.{page_of}
 use Rattle.flat_model.specs.Rows.{is_at, allows}
 use Rattle.flat_model.specs.Checks.{Opens}
 use Rattle.flat_model.specs.declared.need.Need.{Need}
-use Rattle.flat_model.specs.State.{FlatState, Page, page_at}
+use Rattle.flat_model.specs.State.{FlatState, Page}
 use Rattle.flat_model.specs.Step.{Outcome, refused, on_found, if_allowed, if_pages_last, on_bytes, is_out_of_pages}
 use Rattle.flat_model.proofs.EntryLemmas.{at_position, not_found}
 use Rattle.cl_types.proofs.PlaceLemmas.{place_exact}

@@ -1,5 +1,5 @@
 -- What good numbers give, and the pages of one offload more.
-use Rattle.std.proofs.Common.{◌≡◌, ◌⊎◌, inl, inr, ℕ, zero, suc, ◌+◌, ◌-◌, ◌/◌, ◌<◌, ◌≤◌, length-append, ◌==◌, ◌&&◌, Bool, true, false, not, cond, leb, if◌then◌else◌, List, [], ◌∷◌, ◌++◌, length, take, drop, map, get_or, Option, Some, None, option_map, slice_get, refl, sym, ap, subst, ◌∙◌, arith, add-one, append_assoc}
+use Rattle.std.proofs.Common.{◌≡◌, ℕ, zero, suc, ◌+◌, ◌-◌, ◌<◌, ◌≤◌, length-append, ◌==◌, ◌&&◌, Bool, true, false, not, cond, leb, if◌then◌else◌, List, [], ◌∷◌, ◌++◌, length, take, drop, map, get_or, Option, Some, None, option_map, refl, sym, ap, subst, ◌∙◌, arith, add-one, append_assoc}
 use Rattle.std.specs.List.{find, list_all, range_with_len}
 use Rattle.std.proofs.lemmas.List.{length-map}
 use Rattle.std.proofs.lemmas.List.FromFn.{length-range_with_len}
@@ -9,12 +9,10 @@ use Rattle.std.proofs.lemmas.List.{append-nil}
 use Rattle.std.proofs.lemmas.Option.{slice_get-get_or}
 use Rattle.cl_types.specs.Config.{Judged, bad_number_of, first_bad, judged, judged_offload, judged_offloads, offload_pages, is_within}
 use Rattle.cl_types.specs.Places.{Place, home_of, homes_at, is_bucket_count}
-use Rattle.cl_types.specs.declared.config.Field.{Field}
 use Rattle.cl_types.specs.declared.config.Field.TheVariants as field
 use Rattle.cl_types.specs.declared.config.NodeConfig.{NodeConfig}
 use Rattle.cl_types.specs.declared.config.OffloadConfig.{OffloadConfig}
 use Rattle.cl_types.specs.declared.config.OffloadConfig.TheVariants.{Kv}
-use Rattle.flat_model.specs.declared.open_fault.OpenFault.{OpenFault}
 use Rattle.flat_model.specs.declared.open_fault.OpenFault.TheVariants.{NoRoom}
 use Rattle.flat_model.specs.Opening.{held_by, has_room, first_without_room, pages_at, room_fault}
 use Rattle.flat_model.specs.State.{held_from, places_of}
@@ -154,8 +152,10 @@ buckets_held c k none within four =
   where
     room : ℕ → ℕ → Bool
     room home more = leb (homes_at c.buckets home (held_by c k) + more) 4
+
     empty : (home : ℕ) → room home 0 ≡ true
     empty home = let few : homes_at c.buckets home (held_by c k) ≤ 4 = four home in grind (arith, nat_tests)
+
     counted : (home : ℕ) → leb (homes_at c.buckets home (held_by c (k + 1))) 4 ≡ room home (homes_at c.buckets home (offload_places c k))
     counted home = ap (λ n. leb n 4) (homes_more c k home within)
 

@@ -1,5 +1,5 @@
 -- Ranges that types give.
-use Rattle.std.proofs.Common.{◌≡◌, ◌+◌, ◌<◌, ◌≤◌, ◌%◌, ◌^◌, ℕ, zero, suc, true, nat_lt, List, [], ◌∷◌, get_or, Fits, w8, refl, ap, ◌∙◌, arith}
+use Rattle.std.proofs.Common.{◌≡◌, ◌+◌, ◌≤◌, ◌%◌, ℕ, suc, true, List, [], ◌∷◌, get_or, Fits, w8, refl, arith}
 use Rattle.std.proofs.lemmas.Bool.Decides.{nat_tests}
 use Rattle.flat_model.specs.Ranges.{are_bytes}
 

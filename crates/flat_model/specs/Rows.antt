@@ -1,5 +1,5 @@
 -- What the plain lists of a flat state stand for.
-use Rattle.std.specs.Prelude.{ℕ, ◌+◌, ◌≤◌, leb, ◌++◌, map, ◌≡◌, ◌==◌, ◌↔◌, Bool, ◌&&◌, List, Option, Some, None, Result, Ok, Err, slice_get, if◌then◌else◌, IsTrue}
+use Rattle.std.specs.Prelude.{ℕ, ◌+◌, ◌≤◌, leb, ◌++◌, map, Bool, List, Option, Some, None, slice_get, IsTrue}
 use Rattle.std.specs.Ordering.{eq_by_cmp}
 use Rattle.std.specs.FinMap.Entries.{is_sorted, put}
 use Rattle.cl_types.specs.declared.limits.TheConstants.{BUCKET_PAGES}
@@ -7,13 +7,9 @@ use Rattle.cl_types.specs.Places.{Place, place_cmp, home_of, homes_at, is_bucket
 use Rattle.cl_types.specs.declared.call.Perm.{Perm}
 use Rattle.flat_model.specs.declared.need.Need.{Need}
 use Rattle.flat_model.specs.declared.need.Need.TheVariants.{Write, Change}
-use Rattle.cl_types.specs.declared.numbers.Addr.{Addr}
-use Rattle.cl_types.specs.declared.reply.Refusal.{Refusal}
-use Rattle.cl_types.specs.declared.reply.Reply.{Reply}
-use Rattle.flat_model.specs.Pages.{page_of}
 use Rattle.cl_types.specs.declared.config.NodeConfig.{NodeConfig}
 use Rattle.flat_model.specs.Opening.{held_by}
-use Rattle.flat_model.specs.Step.{Outcome, may_write, may_change, on_bytes, refused}
+use Rattle.flat_model.specs.Step.{may_write, may_change}
 use Rattle.flat_model.specs.State.{FlatState, Page, bytes_of, load}
 use Rattle.cl_types.specs.Bytes.{with_bytes}
 

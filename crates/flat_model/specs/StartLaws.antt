@@ -1,5 +1,5 @@
 -- Laws of the least start of a range.
-use Rattle.std.specs.Prelude.{ℕ, ◌≡◌, ◌≤◌, ◌<◌, ◌↔◌, List, Some, None, IsTrue}
+use Rattle.std.specs.Prelude.{ℕ, ◌≡◌, ◌≤◌, ◌↔◌, List, Some, None, IsTrue}
 use Rattle.cl_types.specs.Places.{Place}
 use Rattle.flat_model.specs.State.{fits, least}
 

@@ -1,6 +1,6 @@
 //! Whether a request and its reply are a step of the flat machine.
 
-ghost use Rattle.std.specs.Prelude.{◌≡◌, ◌+◌, ◌%◌, ◌≤◌, ◌<◌, ◌^◌, ◌↔◌, IfOk, OnErr, IsTrue, false, if◌then◌else◌, length};
+ghost use Rattle.std.specs.Prelude.{◌≡◌, ◌+◌, ◌%◌, ◌≤◌, ◌<◌, ◌↔◌, IfOk, OnErr, IsTrue, false, if◌then◌else◌, length};
 ghost use Rattle.cl_types.specs.Bytes.{bytes_at};
 ghost use Rattle.flat_model.specs.Pages.{offset_of};
 ghost use Rattle.flat_model.specs.Ranges.{is_in_range};

@@ -1,14 +1,13 @@
 //! The flat machine as plain lists of pages, ranges and objects, for the checking of histories.
 
-ghost use Rattle.std.specs.Prelude.{◌≡◌, ◌+◌, ◌<◌, ◌≤◌, ◌^◌, OnOk, OnErr, Some, IsTrue, [], count_by, is_some, leb, length, option_map, position, slice_get};
+ghost use Rattle.std.specs.Prelude.{◌≡◌, ◌<◌, Some, IsTrue, [], count_by, is_some, leb, length, option_map, position, slice_get};
 ghost use Rattle.std.specs.Option.{option_copied};
 ghost use Rattle.flat_model.specs.Pages.{page_of};
-ghost use Rattle.flat_model.specs.Rows.{AreFourAtMost, allows, is_at, put_bytes, with_changed, with_put};
+ghost use Rattle.flat_model.specs.Rows.{AreFourAtMost, allows, is_at};
 ghost use Rattle.flat_model.specs.Checks.{Opens};
-ghost use Rattle.std.specs.FinMap.Entries.{is_sorted};
-ghost use Rattle.cl_types.specs.Places.{is_bucket_count, place_cmp};
+ghost use Rattle.cl_types.specs.Places.{is_bucket_count};
 ghost use Rattle.flat_model.specs.State.{page_at, used};
-ghost use Rattle.flat_model.specs.Step.{is_out_of_pages, is_range, unmapped};
+ghost use Rattle.flat_model.specs.Step.{is_out_of_pages, is_range};
 
 mod change;
 mod fit;

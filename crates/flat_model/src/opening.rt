@@ -1,9 +1,9 @@
 //! The opening of a flat machine.
 
-ghost use Rattle.std.specs.Prelude.{◌≡◌, ◌+◌, ◌<◌, ◌≤◌, ◌++◌, IfOk, IfErr, OnOk, MatchOption, IsTrue, None, Some, Err, length, map};
+ghost use Rattle.std.specs.Prelude.{◌≡◌, ◌+◌, ◌<◌, ◌++◌, IfOk, IfErr, OnOk, MatchOption, None, Err, map};
 ghost use Rattle.cl_types.specs.Config.{bad_number_of};
 ghost use Rattle.flat_model.specs.Objects.{empty_object};
-ghost use Rattle.flat_model.specs.Opening.{held_by, open_fault};
+ghost use Rattle.flat_model.specs.Opening.{open_fault};
 ghost use Rattle.flat_model.specs.State.{held_from, opening, places_of};
 
 use crate::flat::Flat;
@@ -67,9 +67,7 @@ fn empty_objects(alloc: Global, offloads: &[OffloadConfig]) -> Result<Vec<KvStor
 /// offload without room, is told whether there is memory or not.
 pub fn create(alloc: Global, config: &NodeConfig) -> Result<Flat, OpenFault>
     ensures opened { IfOk result (λ flat. flat ≡ opening config.now) }
-    ensures fault {
-        MatchOption (open_fault config.now) (IfErr result (λ fault. fault ≡ OpenFault.NoMemory)) (λ fault. result ≡ Err fault)
-    }
+    ensures fault { MatchOption (open_fault config.now) (IfErr result (λ fault. fault ≡ OpenFault.NoMemory)) (λ fault. result ≡ Err fault) }
 {
     if let Some((field, value)) = bad_number(config) {
         return Err(OpenFault::BadConfig { field, value });

@@ -1,7 +1,7 @@
 //! Whether a request is in its ranges.
 
 ghost use Rattle.std.specs.Prelude.{◌≡◌, ◌&&◌, length};
-ghost use Rattle.flat_model.specs.Ranges.{are_bytes, has_words, is_good_address, is_in_range, is_page_count, is_piece};
+ghost use Rattle.flat_model.specs.Ranges.{are_bytes, is_good_address, is_in_range, is_page_count, is_piece};
 
 use cl_types::call::AtomicOp;
 use cl_types::limits::{ADDRESS_END, PAGE_BYTES, PART_BYTES, RANGE_PAGES, SPACE_PAGES};

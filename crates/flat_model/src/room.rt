@@ -1,7 +1,7 @@
 //! Whether the pages of the offloads go into a node.
 
-ghost use Rattle.std.specs.Prelude.{◌≡◌, ◌+◌, ◌*◌, ◌≤◌, ◌<◌, IfNone, IsTrue, None, leb, length};
-ghost use Rattle.std.specs.List.{list_all, range_with_len};
+ghost use Rattle.std.specs.Prelude.{◌≡◌, ◌+◌, ◌≤◌, ◌<◌, IfNone, IsTrue, None, length};
+ghost use Rattle.std.specs.List.{list_all};
 ghost use Rattle.cl_types.specs.Config.{bad_number_of};
 ghost use Rattle.cl_types.specs.Places.{homes_at, is_bucket_count};
 ghost use Rattle.flat_model.specs.Opening.{has_room, held_by, pages_at, room_fault};

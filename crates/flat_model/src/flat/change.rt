@@ -1,6 +1,6 @@
 //! What changes a flat machine: bytes put into a page, a range taken out, a range mapped.
 
-ghost use Rattle.std.specs.Prelude.{◌≡◌, ◌+◌, ◌<◌, ◌≤◌, ◌^◌, OnOk, OnErr, IsTrue, length, slice_get, vec_capacity, vec_len};
+ghost use Rattle.std.specs.Prelude.{◌≡◌, ◌+◌, ◌<◌, ◌≤◌, OnOk, OnErr, IsTrue, length, slice_get, vec_capacity, vec_len};
 ghost use Rattle.std.specs.FinMap.Entries.{is_sorted};
 ghost use Rattle.cl_types.specs.Places.{place_cmp};
 ghost use Rattle.flat_model.specs.Pages.{page_of};

@@ -1,4 +1,3 @@
-use Rattle.std.proofs.Common.{◌∙◌, sym, ap}
 use Rattle.flat_model.proofs.CheckLemmas.{checks_refused, checks_write, checks_no_write, opened_within, wants_write}
 use Rattle.flat_model.specs.Step.{may_write, puts}
 use Rattle.cl_types.specs.declared.reply.Reply.TheVariants.{Nothing}

@@ -1,4 +1,4 @@
-use Rattle.std.proofs.Common.{◌≡◌, ℕ, List, sym, subst}
+use Rattle.std.proofs.Common.{ℕ, List, sym, subst}
 use Rattle.cl_types.specs.Places.{Place}
 use Rattle.flat_model.specs.Rows.{AreFourAtMost}
 use Rattle.flat_model.proofs.opening.create.Goals as goal

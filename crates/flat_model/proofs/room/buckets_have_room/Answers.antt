@@ -1,7 +1,5 @@
-use Rattle.std.proofs.Common.{◌≡◌, ◌+◌, ◌∙◌, ℕ, ap, sym}
-use Rattle.std.specs.List.{list_all}
+use Rattle.std.proofs.Common.{◌+◌, ◌∙◌, sym}
 use Rattle.flat_model.specs.Rows.{has_room_among}
-use Rattle.flat_model.specs.State.{places_of}
 use Rattle.flat_model.proofs.FitLemmas.{all_places_next, all_places_fail}
 use Rattle.flat_model.proofs.OpeningLemmas.{same_pages}
 use Rattle.flat_model.proofs.room.buckets_have_room.Goals as goal

@@ -1,4 +1,4 @@
-use Rattle.std.proofs.Common.{◌≡◌, ◌≤◌, ◌∙◌, length}
+use Rattle.std.proofs.Common.{◌∙◌}
 use Rattle.flat_model.proofs.OpeningLemmas.{buckets_held, with_count}
 use Rattle.flat_model.proofs.room.has_room_for.Goals as goal
 

@@ -1,4 +1,4 @@
-use Rattle.std.proofs.Common.{◌≡◌, ◌∙◌, List, sym, subst, arith}
+use Rattle.std.proofs.Common.{◌∙◌, List, sym, subst, arith}
 use Rattle.cl_types.specs.Places.{Place}
 use Rattle.flat_model.specs.Rows.{AreFourAtMost}
 use Rattle.flat_model.proofs.OpeningLemmas.{four_held, held_all, no_room, room_next}

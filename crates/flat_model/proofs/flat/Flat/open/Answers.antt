@@ -1,6 +1,6 @@
 use Rattle.std.proofs.Common.{sym, ap, ◌∙◌}
 use Rattle.flat_model.specs.Rows.{allows}
-use Rattle.flat_model.proofs.OpenLemmas.{Stands, opens_none, opens_denied, opens_last, opens_page}
+use Rattle.flat_model.proofs.OpenLemmas.{opens_none, opens_denied, opens_last, opens_page}
 use Rattle.flat_model.proofs.flat.Flat.open.Goals as goal
 
 pub returns-in-None : goal.returns-in-None
