@@ -26,7 +26,9 @@ none_bad : (number : Judged) (numbers : List Judged) → first_bad (number ∷ n
 none_bad number numbers none = step number.2 refl where
   step : (b : Bool) → number.2 ≡ b → (number.2 ≡ true) × (first_bad numbers ≡ None)
   step true is = (is, sym (ap (λ b. if b then first_bad numbers else Some (number.0, number.1)) is) ∙ none)
-  step false is = absurd (cc (ap (λ b. if b then first_bad numbers else Some (number.0, number.1)) is, none))
+  step false is =
+      let told : first_bad (number ∷ numbers) ≡ Some (number.0, number.1) = ap (λ b. if b then first_bad numbers else Some (number.0, number.1)) is in
+      absurd (cc (told, none))
 
 -- what holds of a configuration with no bad number
 pub record IsGood (c : NodeConfig) : Type 0 where

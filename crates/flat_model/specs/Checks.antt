@@ -6,7 +6,7 @@ use Rattle.cl_types.specs.declared.request.Request.{Request}
 use Rattle.cl_types.specs.declared.reply.Refusal.{Refusal}
 use Rattle.cl_types.specs.declared.reply.Reply.{Reply}
 use Rattle.cl_types.specs.declared.reply.Reply.TheVariants.{Refused, Got}
-use Rattle.flat_model.specs.Objects.{Object, Given, object_step}
+use Rattle.flat_model.specs.Objects.{Object, KvObject, Pairs, Given, object_step}
 use Rattle.flat_model.specs.Pages.{page_of}
 use Rattle.flat_model.specs.State.{FlatState, Page}
 use Rattle.flat_model.specs.Ranges.{is_in_range}
@@ -38,6 +38,10 @@ object_given old (Ok (answer, object)) = object
 pub record ChecksObject (old : Object) (given : Given) (out : ℕ) (reply : Reply) (may : Bool) (new : Object) : Type 0 where
   pub allowed : IsTrue may ↔ (reply ≡ reply_given out given)
   pub after : new ≡ (if may then object_given old given else old)
+
+-- the same of the pairs of a key-value store
+abbrev pub ChecksPairs : ℕ → Pairs → Given → ℕ → Reply → Bool → Pairs → Type 0
+ChecksPairs records old given out reply may new = ChecksObject (KvObject records old) given out reply may (KvObject records new)
 
 -- the same of one object of a list
 pub record ChecksOne (objects : List Object) (number : ℕ) (object : Object) (op : ℕ) (bytes : List ℕ) (out : ℕ) (reply : Reply) (may : Bool) (rest : List Object) : Type 0 where

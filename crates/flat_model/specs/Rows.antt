@@ -1,5 +1,6 @@
 -- What the plain lists of a flat state stand for.
 use Rattle.std.specs.Prelude.{ℕ, ◌+◌, ◌≤◌, leb, ◌++◌, map, Bool, List, Option, Some, None, slice_get, IsTrue}
+use Rattle.std.specs.List.{list_all, range_with_len}
 use Rattle.std.specs.Ordering.{eq_by_cmp}
 use Rattle.std.specs.FinMap.Entries.{is_sorted, put}
 use Rattle.cl_types.specs.declared.limits.TheConstants.{BUCKET_PAGES}
@@ -28,6 +29,11 @@ AreFourAtMost buckets places = (home : ℕ) → homes_at buckets home places ≤
 -- the bucket of a page has room for these pages
 abbrev pub has_room_at : FlatState → List Place → Place → Bool
 has_room_at s pages page = leb (load s (home_of s.buckets page) + homes_at s.buckets (home_of s.buckets page) pages) BUCKET_PAGES
+
+-- each bucket has room for these pages
+abbrev pub has_room_everywhere : FlatState → List Place → Bool
+has_room_everywhere s pages =
+    list_all (λ home. leb (load s home + homes_at s.buckets home pages) BUCKET_PAGES) (range_with_len 0 s.buckets)
 
 -- the bucket of a page has room for the pages of the first k offloads
 abbrev pub has_room_among : NodeConfig → ℕ → Place → Bool

@@ -78,7 +78,8 @@ fn check_write(
 ) -> Result<bool, NoMemory>
     requires good { addr.0 < ADDRESS_END }
     requires within { offset_of addr + length bytes.now ≤ PAGE_BYTES }
-    ensures checks { IfOk result (λ may. Checks flat.old (write flat.old pid addr bytes.now) reply.now may flat.new) }
+    ensures checks { IfOk result (λ may.
+        Checks flat.old (write flat.old pid addr bytes.now) reply.now may flat.new) }
     ensures wanted { OnErr result (reply.now ≡ (write flat.old pid addr bytes.now).reply) }
     ensures unchanged { OnErr result (flat.new ≡ flat.old) }
 {
@@ -165,7 +166,8 @@ fn check_alloc(
 ) -> Result<bool, NoMemory>
     requires { 1 ≤ pages }
     ensures allowed { IfOk result (λ may. IsTrue may ↔ MayAlloc flat.old pid pages reply.now) }
-    ensures after { IfOk result (λ may. flat.new ≡ (if may then alloc_after flat.old pid pages perm reply.now else flat.old)) }
+    ensures after { IfOk result (λ may.
+        flat.new ≡ (if may then alloc_after flat.old pid pages perm reply.now else flat.old)) }
     ensures wanted { OnErr result (MayAlloc flat.old pid pages reply.now) }
     ensures unchanged { OnErr result (flat.new ≡ flat.old) }
 {
@@ -193,7 +195,8 @@ fn check_reply(
 ) -> Result<bool, NoMemory>
     requires { IsTrue (is_in_range request.now) }
     ensures allowed { IfOk result (λ may. IsTrue may ↔ MayReply flat.old pid request.now reply.now) }
-    ensures after { IfOk result (λ may. flat.new ≡ (if may then state_after flat.old pid request.now reply.now else flat.old)) }
+    ensures after { IfOk result (λ may.
+        flat.new ≡ (if may then state_after flat.old pid request.now reply.now else flat.old)) }
     ensures wanted { OnErr result (MayReply flat.old pid request.now reply.now) }
     ensures unchanged { OnErr result (flat.new ≡ flat.old) }
 {
@@ -216,9 +219,10 @@ fn check_reply(
     }
 }
 
-/// Whether the request of this process and its reply are a step of the machine, and the step itself if they are: an
-/// Alloc may start wherever it fits, and every other request has one reply. Where they are no step, and without memory,
-/// the machine stays as it was.
+/// Whether the request of this process and its reply are a step of the machine, and the step itself
+/// if they are. An Alloc may start wherever it fits, and every other request has one reply. Where
+/// they are no step, and without memory, the machine stays as it was. Memory is wanted for steps
+/// alone.
 pub fn check_step(
     alloc: Global,
     flat: &mut Flat,

@@ -44,7 +44,14 @@ impl Model for Flat {
 
     ghost use Rattle.flat_model.specs.Rows.{AreInOrder};
 
-    ghost view = { λ f. record { map = f.map.items; ranges = f.ranges.items; objects = f.objects.items; held = f.held.items; pages = f.pages; buckets = f.buckets } };
+    ghost view = { λ f. record {
+      map = f.map.items;
+      ranges = f.ranges.items;
+      objects = f.objects.items;
+      held = f.held.items;
+      pages = f.pages;
+      buckets = f.buckets;
+    } };
 
     ghost invariant = { λ f. AreInOrder f.map.items f.ranges.items f.held.items f.buckets };
 }
@@ -66,7 +73,14 @@ impl Flat {
     ) -> Flat
         requires homes { IsTrue (is_bucket_count buckets) }
         requires four { AreFourAtMost buckets held.items }
-        ensures { result ≡ record { map = []; ranges = []; objects = objects.items; held = held.items; pages = pages; buckets = buckets } }
+        ensures { result ≡ record {
+          map = [];
+          ranges = [];
+          objects = objects.items;
+          held = held.items;
+          pages = pages;
+          buckets = buckets;
+        } }
     {
         Flat {
             map: Vec::new(alloc),

@@ -67,7 +67,8 @@ fn empty_objects(alloc: Global, offloads: &[OffloadConfig]) -> Result<Vec<KvStor
 /// offload without room, is told whether there is memory or not.
 pub fn create(alloc: Global, config: &NodeConfig) -> Result<Flat, OpenFault>
     ensures opened { IfOk result (λ flat. flat ≡ opening config.now) }
-    ensures fault { MatchOption (open_fault config.now) (IfErr result (λ fault. fault ≡ OpenFault.NoMemory)) (λ fault. result ≡ Err fault) }
+    ensures fault { MatchOption (open_fault config.now) (IfErr result (λ fault. fault ≡ OpenFault.NoMemory))
+        (λ fault. result ≡ Err fault) }
 {
     if let Some((field, value)) = bad_number(config) {
         return Err(OpenFault::BadConfig { field, value });

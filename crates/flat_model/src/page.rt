@@ -92,7 +92,8 @@ impl MappedPage {
         }
     }
 
-    /// Puts bytes at a place. A fresh page has bytes from then on. Without memory it stays as it was.
+    /// Puts bytes at a place. A fresh page has bytes from then on. Without memory it stays as it
+    /// was.
     pub fn put(&mut self, alloc: Global, at: usize, bytes: &[u8]) -> Result<(), NoMemory>
         requires { at + length bytes.now ≤ PAGE_BYTES }
         ensures put { OnOk result (self.new ≡ with_put at bytes.now self.old) }

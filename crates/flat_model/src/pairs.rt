@@ -97,7 +97,8 @@ fn insert(alloc: Global, pairs: &mut Vec<Pair>, key: &[u8], value: Bytes) -> Res
 
 /// Takes out the pair of this key.
 pub fn take_out(pairs: &mut Vec<Pair>, key: &[u8])
-    ensures kept { pairs.new.items ≡ where_key key_cmp (λ other. not (eq_by_cmp key_cmp key.now other)) pairs.old.items }
+    ensures kept { pairs.new.items ≡
+        where_key key_cmp (λ other. not (eq_by_cmp key_cmp key.now other)) pairs.old.items }
     ensures order { IsTrue (is_sorted key_cmp pairs.old.items) → IsTrue (is_sorted key_cmp pairs.new.items) }
 {
     pairs.retain(|pair| !order_of(key, &pair.0).is_eq());

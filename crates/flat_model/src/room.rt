@@ -70,6 +70,7 @@ fn held_at(config: &NodeConfig, k: u8, bucket: u32) -> usize
     found
 }
 
+/// How many buckets the node's page table has.
 #[tactic(auto, using(crate::proofs::OpeningLemmas::good_buckets, crate::proofs::BucketLemmas::few_buckets))]
 pub fn bucket_count(config: &NodeConfig) -> u32
     requires { bad_number_of config.now ≡ None }
@@ -93,7 +94,8 @@ fn has_room_at(config: &NodeConfig, k: u8, page: Place) -> bool
 fn buckets_have_room(config: &NodeConfig, k: u8) -> bool
     requires good { bad_number_of config.now ≡ None }
     requires within { k < length config.now.offloads }
-    ensures { result ≡ list_all (has_room_among config.now (k + 1)) (places_of (65280 + k) 1 (pages_at config.now.offloads k)) }
+    ensures { let pages = places_of (65280 + k) 1 (pages_at config.now.offloads k) in
+        result ≡ list_all (has_room_among config.now (k + 1)) pages }
 {
     let space = space_of(k);
     let n = page_count(config, k);
@@ -105,8 +107,8 @@ fn buckets_have_room(config: &NodeConfig, k: u8) -> bool
     true
 }
 
-// Whether there is room for the pages up to this offload. The pages before it bring no bucket above four, so the
-// buckets of its own pages are enough.
+// Whether there is room for the pages up to this offload. The pages before it bring no bucket
+// above four, so the buckets of its own pages are enough.
 #[tactic(auto, using(crate::proofs::OpeningLemmas::buckets_held))]
 fn has_room_for(config: &NodeConfig, k: u8) -> bool
     requires good { bad_number_of config.now ≡ None }

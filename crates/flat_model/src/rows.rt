@@ -45,16 +45,20 @@ fn is_one_of(pid: u16, start: u16, pages: u16, place: Place) -> bool
 
 /// Takes out the entry of this place.
 pub fn take_out<V: Drop>(entries: &mut Vec<(Place, V)>, place: Place)
-    ensures kept { entries.new.items ≡ where_key place_cmp (λ other. not (eq_by_cmp place_cmp place other)) entries.old.items }
-    ensures order { IsTrue (is_sorted place_cmp entries.old.items) → IsTrue (is_sorted place_cmp entries.new.items) }
+    ensures kept { entries.new.items ≡
+        where_key place_cmp (λ other. not (eq_by_cmp place_cmp place other)) entries.old.items }
+    ensures order { IsTrue (is_sorted place_cmp entries.old.items)
+        → IsTrue (is_sorted place_cmp entries.new.items) }
 {
     entries.retain(|entry| !is_same(place, entry.0));
 }
 
 /// Takes out the entries of these pages of a process.
 pub fn take_out_pages<V: Drop>(entries: &mut Vec<(Place, V)>, pid: u16, start: u16, pages: u16)
-    ensures kept { entries.new.items ≡ where_key place_cmp (λ place. not (is_among pid start pages place)) entries.old.items }
-    ensures order { IsTrue (is_sorted place_cmp entries.old.items) → IsTrue (is_sorted place_cmp entries.new.items) }
+    ensures kept { entries.new.items ≡
+        where_key place_cmp (λ place. not (is_among pid start pages place)) entries.old.items }
+    ensures order { IsTrue (is_sorted place_cmp entries.old.items)
+        → IsTrue (is_sorted place_cmp entries.new.items) }
 {
     entries.retain(|entry| !is_one_of(pid, start, pages, entry.0));
 }

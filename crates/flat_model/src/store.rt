@@ -3,7 +3,7 @@
 ghost use Rattle.std.specs.Prelude.{◌≡◌, ◌≤◌, ◌==◌, ◌&&◌, ◌↔◌, IfOk, OnErr, IsTrue, [], is_some, leb, length, not, take};
 ghost use Rattle.std.specs.Int.{to_be_bytes, w32};
 ghost use Rattle.std.specs.FinMap.Entries.{find, is_sorted};
-ghost use Rattle.flat_model.specs.Checks.{ChecksObject, reply_given};
+ghost use Rattle.flat_model.specs.Checks.{ChecksObject, ChecksPairs, reply_given};
 ghost use Rattle.flat_model.specs.Objects.{KvObject, is_keyed, key_cmp, key_in, kv_delete, kv_get, kv_put, kv_step, object_step, value_in};
 
 use crate::pairs::{Pair, put, take_out, value_of};
@@ -93,8 +93,10 @@ fn check_put(
     reply: &Reply,
 ) -> Result<bool, NoMemory>
     requires { IsTrue (is_sorted key_cmp pairs.old.items) }
-    ensures checks { IfOk result (λ may. ChecksObject (KvObject records pairs.old.items) (kv_put records pairs.old.items (key_in bytes.now) (value_in bytes.now)) out reply.now may (KvObject records pairs.new.items)) }
-    ensures wanted { OnErr result (reply.now ≡ reply_given out (kv_put records pairs.old.items (key_in bytes.now) (value_in bytes.now))) }
+    ensures checks { let given = kv_put records pairs.old.items (key_in bytes.now) (value_in bytes.now) in
+        IfOk result (λ may. ChecksPairs records pairs.old.items given out reply.now may pairs.new.items) }
+    ensures wanted { let given = kv_put records pairs.old.items (key_in bytes.now) (value_in bytes.now) in
+        OnErr result (reply.now ≡ reply_given out given) }
     ensures order { IsTrue (is_sorted key_cmp pairs.new.items) }
     ensures unchanged { OnErr result (pairs.new.items ≡ pairs.old.items) }
 {
@@ -110,7 +112,8 @@ fn check_put(
 }
 
 fn check_get(records: u64, pairs: &[Pair], bytes: &[u8], out: u16, reply: &Reply) -> bool
-    ensures { ChecksObject (KvObject records pairs.now) (kv_get records pairs.now (find key_cmp (key_in bytes.now) pairs.now)) out reply.now result (KvObject records pairs.now) }
+    ensures { let given = kv_get records pairs.now (find key_cmp (key_in bytes.now) pairs.now) in
+        ChecksPairs records pairs.now given out reply.now result pairs.now }
 {
     match value_of(pairs, key_of(bytes)) {
         None => is_refusal(reply, Refusal::NoKey),
@@ -120,7 +123,8 @@ fn check_get(records: u64, pairs: &[Pair], bytes: &[u8], out: u16, reply: &Reply
 
 fn check_delete(records: u64, pairs: &mut Vec<Pair>, bytes: &[u8], out: u16, reply: &Reply) -> bool
     requires { IsTrue (is_sorted key_cmp pairs.old.items) }
-    ensures checks { ChecksObject (KvObject records pairs.old.items) (kv_delete records pairs.old.items (key_in bytes.now)) out reply.now result (KvObject records pairs.new.items) }
+    ensures checks { let given = kv_delete records pairs.old.items (key_in bytes.now) in
+        ChecksPairs records pairs.old.items given out reply.now result pairs.new.items }
     ensures order { IsTrue (is_sorted key_cmp pairs.new.items) }
 {
     let key = key_of(bytes);
@@ -152,7 +156,8 @@ fn check_kv(
     reply: &Reply,
 ) -> Result<bool, NoMemory>
     requires { IsTrue (is_sorted key_cmp pairs.old.items) }
-    ensures checks { IfOk result (λ may. ChecksObject (KvObject records pairs.old.items) (kv_step records pairs.old.items op bytes.now) out reply.now may (KvObject records pairs.new.items)) }
+    ensures checks { let given = kv_step records pairs.old.items op bytes.now in
+        IfOk result (λ may. ChecksPairs records pairs.old.items given out reply.now may pairs.new.items) }
     ensures wanted { OnErr result (reply.now ≡ reply_given out (kv_step records pairs.old.items op bytes.now)) }
     ensures order { IsTrue (is_sorted key_cmp pairs.new.items) }
     ensures unchanged { OnErr result (pairs.new.items ≡ pairs.old.items) }
@@ -183,7 +188,8 @@ impl KvStore {
         }
     }
 
-    /// Whether the object gives this reply, and its step if it does. Without memory it stays as it was.
+    /// Whether the object gives this reply, and its step if it does. Without memory it stays as it
+    /// was.
     pub fn check(
         &mut self,
         alloc: Global,
@@ -192,7 +198,8 @@ impl KvStore {
         out: u16,
         reply: &Reply,
     ) -> Result<bool, NoMemory>
-        ensures checks { IfOk result (λ may. ChecksObject self.old (object_step self.old op bytes.now) out reply.now may self.new) }
+        ensures checks { IfOk result (λ may.
+            ChecksObject self.old (object_step self.old op bytes.now) out reply.now may self.new) }
         ensures wanted { OnErr result (reply.now ≡ reply_given out (object_step self.old op bytes.now)) }
         ensures unchanged { OnErr result (self.new ≡ self.old) }
     {

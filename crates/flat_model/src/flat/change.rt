@@ -27,7 +27,8 @@ fn put_in_row(
     requires order { IsTrue (is_sorted place_cmp map.old.items) }
     requires entry { i < length map.old.items }
     requires within { at + length bytes.now ≤ PAGE_BYTES }
-    ensures put { OnOk result (map.new.items ≡ with_changed (with_put at bytes.now) (slice_get map.old.items i) map.old.items) }
+    ensures put { OnOk result (map.new.items ≡
+        with_changed (with_put at bytes.now) (slice_get map.old.items i) map.old.items) }
     ensures keys { keys map.new.items ≡ keys map.old.items }
     ensures order { IsTrue (is_sorted place_cmp map.new.items) }
     ensures unchanged { OnErr result (map.new.items ≡ map.old.items) }

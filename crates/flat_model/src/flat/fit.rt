@@ -4,7 +4,7 @@ ghost use Rattle.std.specs.Prelude.{◌≡◌, ◌+◌, ◌==◌, ◌<◌, ◌�
 ghost use Rattle.std.specs.List.{list_all, list_any, range_with_len};
 ghost use Rattle.std.specs.Ordering.{eq_by_cmp};
 ghost use Rattle.cl_types.specs.Places.{home_of, homes_at, is_bucket_count, place_cmp};
-ghost use Rattle.flat_model.specs.Rows.{has_room_at};
+ghost use Rattle.flat_model.specs.Rows.{has_room_at, has_room_everywhere};
 ghost use Rattle.flat_model.specs.State.{fits, is_mapped, least, load, places, places_of};
 
 use crate::buckets::{home_at, pages_at, places_at};
@@ -102,7 +102,8 @@ impl Flat {
 
     fn are_free(&self, pid: u16, start: u16, n: u16) -> bool
         requires { start + n ≤ SPACE_PAGES }
-        ensures { result ≡ list_all (λ place. not (is_mapped (places self.now) place)) (places_of pid start n) }
+        ensures { result ≡
+            list_all (λ place. not (is_mapped (places self.now) place)) (places_of pid start n) }
     {
         for i in 0..n {
             if self.holds((pid, start + i)) {
@@ -124,10 +125,11 @@ impl Flat {
         true
     }
 
-    // Whether each bucket has room. No bucket has more than four pages yet, so those of the new pages are enough.
+    // Whether each bucket has room. No bucket has more than four pages yet, so the buckets of the new
+    // pages are enough.
     fn have_room(&self, pid: u16, start: u16, n: u16) -> bool
         requires { start + n ≤ SPACE_PAGES }
-        ensures { result ≡ list_all (λ home. leb (load self.now home + homes_at self.now.buckets home (places_of pid start n)) BUCKET_PAGES) (range_with_len 0 self.now.buckets) }
+        ensures { result ≡ has_room_everywhere self.now (places_of pid start n) }
     {
         let _ = &self.buckets;
         self.has_room_for_each(pid, start, n)

@@ -22,8 +22,10 @@ fn check_one(
     reply: &Reply,
 ) -> Result<bool, NoMemory>
     requires { i < length objects.old.items }
-    ensures checks { IfOk result (λ may. IfSome (slice_get objects.old.items i) (λ object. ChecksOne objects.old.items i object op bytes.now out reply.now may objects.new.items)) }
-    ensures wanted { OnErr result (IfSome (slice_get objects.old.items i) (λ object. reply.now ≡ reply_given out (object_step object op bytes.now))) }
+    ensures checks { IfOk result (λ may. IfSome (slice_get objects.old.items i) (λ object.
+        ChecksOne objects.old.items i object op bytes.now out reply.now may objects.new.items)) }
+    ensures wanted { OnErr result (IfSome (slice_get objects.old.items i) (λ object.
+        reply.now ≡ reply_given out (object_step object op bytes.now))) }
     ensures unchanged { OnErr result (objects.new.items ≡ objects.old.items) }
 {
     let object = &mut objects[i];
@@ -37,8 +39,8 @@ impl Flat {
         self.objects.len()
     }
 
-    /// Whether the machine gives this reply to an operation of an offload, and its step if it does. Without memory it
-    /// stays as it was.
+    /// Whether the machine gives this reply to an operation of an offload, and its step if it does.
+    /// Without memory it stays as it was.
     pub(crate) fn check_offload(
         &mut self,
         alloc: Global,
@@ -48,7 +50,8 @@ impl Flat {
         bytes: &[u8],
         reply: &Reply,
     ) -> Result<bool, NoMemory>
-        ensures checks { IfOk result (λ may. Checks self.old (offload self.old number op out bytes.now) reply.now may self.new) }
+        ensures checks { IfOk result (λ may.
+            Checks self.old (offload self.old number op out bytes.now) reply.now may self.new) }
         ensures wanted { OnErr result (reply.now ≡ (offload self.old number op out bytes.now).reply) }
         ensures unchanged { OnErr result (self.new ≡ self.old) }
     {
