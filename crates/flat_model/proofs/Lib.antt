@@ -13,3 +13,4 @@ pub mod FaultlessFrameLemmas
 pub mod FaultlessRequestLemmas
 pub mod FaultlessReplyLemmas
 pub mod FrameKindLemmas
+mod CommandRows
