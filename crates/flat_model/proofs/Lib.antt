@@ -14,3 +14,4 @@ pub mod FaultlessRequestLemmas
 pub mod FaultlessReplyLemmas
 pub mod FrameKindLemmas
 mod CommandRows
+mod HistoryRows
