@@ -15,3 +15,4 @@ pub mod FaultlessReplyLemmas
 pub mod FrameKindLemmas
 mod CommandRows
 mod HistoryRows
+mod LoopRows
