@@ -1,6 +1,6 @@
 -- Small runs of the loops that serve a node and drive a client, written by hand from their rules.
 use Rattle.std.proofs.Common.{◌≡◌, [], ◌∷◌, refl, arith}
-use Rattle.std.specs.Prelude.{ℕ, zero, suc, ◌<◌, Bool, true, false, List, map, Option, Some, None, Result, Ok, Err, codes, decimal}
+use Rattle.std.specs.Prelude.{ℕ, zero, suc, ◌<◌, Bool, true, false, List, map, flat_map, Option, Some, None, Result, Ok, Err, codes}
 use Rattle.std.specs.Fmt.{digits}
 use Rattle.std.specs.List.{range_with_len}
 use Rattle.hex.specs.Hex.{encode_with}
@@ -8,15 +8,15 @@ use Rattle.cl_types.specs.Bytes.{fresh_bytes}
 use Rattle.cl_types.specs.Places.{home_of}
 use Rattle.cl_types.specs.declared.schedule.CallText.{CallText}
 use Rattle.flat_model.specs.State.{least}
-use Rattle.flat_model.specs.Text.{Text, words}
-use Rattle.flat_model.specs.Texts.{answer_text, fault_text}
+use Rattle.flat_model.specs.Text.{Text, lines_in}
+use Rattle.flat_model.specs.Texts.{printed_text}
 use Rattle.flat_model.specs.Words.{bytes_of_pairs}
 use Rattle.flat_model.specs.Grammar.{Fault, script_of}
 use Rattle.flat_model.specs.Outside.{Clock, Received, Datagram, NothingCame, ReceivingFailed, Sendings}
 use Rattle.flat_model.specs.Nodes.{opening_node}
 use Rattle.flat_model.specs.Client.{new_client}
 use Rattle.flat_model.specs.Serving.{Serving, served_over}
-use Rattle.flat_model.specs.Driving.{Driving, Printed, NotIssued, Answered, Stop, AllEnded, Stalled, WireFailed, DrivesTo, turns, stop_at}
+use Rattle.flat_model.specs.Driving.{Driving, Stop, AllEnded, Stalled, WireFailed, DrivesTo, turns, stop_at}
 use Rattle.flat_model.proofs.RowTexts.{text}
 
 -- ---- frames of client 1 of process 1: a page, three bytes put into it, four read; and the replies to them
@@ -183,13 +183,9 @@ start script clock receives sendings = record {
   failed = false;
 }
 
--- a line of a driven client's output
-abbrev printed_text : Printed → Text
-printed_text (NotIssued line fault) = words (decimal line ∷ codes "not issued" ∷ fault_text fault ∷ [])
-printed_text (Answered line ended) = words (decimal line ∷ answer_text ended.answer ended.bytes ∷ [])
-
+-- the lines of a driven client's output
 abbrev output : Driving ℕ → List Text
-output d = map printed_text d.printed
+output d = lines_in (flat_map printed_text d.printed)
 
 -- whether the run is over before each of the first turns, and how
 abbrev stops : ℕ → Driving ℕ → List (Option Stop)
