@@ -1,2 +1,2 @@
 pub mod FrontLemmas
-pub mod WrittenLemmas
+pub mod ToldLemmas

@@ -4,7 +4,7 @@ use Rattle.cl_outside.specs.Plan.{CallPlan}
 use Rattle.cl_outside.specs.Wire.{Message, Binding}
 use Rattle.cl_outside.specs.declared.wire.Bound.{Bound}
 use Rattle.cl_outside.specs.declared.source.Read.{Read}
-use Rattle.cl_outside.specs.declared.source.Read.TheVariants.{Got, End}
+use Rattle.cl_outside.specs.declared.source.Read.TheVariants.{Got}
 use Rattle.cl_outside.specs.declared.sink.Wrote.{Wrote}
 use Rattle.cl_outside.specs.declared.sink.Wrote.TheVariants.{Put}
 

@@ -1,15 +1,15 @@
 -- What one read does to what a source has left, to the buffer, and to the count of faults.
-use Rattle.std.specs.Prelude.{◌≡◌, ℕ, ◌<◌, ◌≤◌, List, [], ◌++◌, length, take, IfSome}
-use Rattle.std.specs.Option.{option_map}
+use Rattle.std.specs.Prelude.{◌≡◌, ℕ, ◌<◌, ◌≤◌, List, [], length, take, IfSome}
 use Rattle.std.specs.declared.option.Option.{Option}
 use Rattle.cl_outside.specs.Counts.{Rose}
+use Rattle.cl_outside.specs.Told.{Took}
 use Rattle.cl_outside.specs.declared.source.Read.{Read}
 use Rattle.cl_outside.specs.declared.source.Read.TheVariants.{Got, End, Failed}
 
--- from what was left before to what is left after, with the buffer as it is then, a read gave this
+-- with what was left before and after, and the buffer after: what a read gave
 abbrev pub Reads : Option (List ℕ) → Option (List ℕ) → List ℕ → Read → Type 0
--- what was left are the bytes at the front of the buffer, and then what is left now
-Reads before after buf (Got n) = (0 < n) × (n ≤ length buf) × (before ≡ option_map (λ rest. take n buf ++ rest) after)
+-- the bytes at the front of the buffer were taken off what was left
+Reads before after buf (Got n) = (0 < n) × (n ≤ length buf) × Took (take n buf) before after
 -- nothing is left
 Reads before after buf End = (after ≡ before) × IfSome before (λ bytes. bytes ≡ [])
 Reads before after buf Failed = after ≡ before

@@ -1,8 +1,8 @@
 //! Reading an input to its end, and writing all bytes.
 
 ghost use Rattle.std.specs.Prelude.{◌≡◌, ◌<◌, ◌≤◌, ◌+◌, ◌++◌, [], length, IfOk, OnOk, IfErr, OnErr, IfSome, IsErrOf};
-ghost use Rattle.std.specs.Option.{option_map};
 ghost use Rattle.cl_outside.specs.Counts.{Rose};
+ghost use Rattle.cl_outside.specs.Told.{Added};
 ghost use Rattle.cl_outside.specs.Loops.{GotPiece, IsPieceStop, IsReadStop, TookCount, WroteFront};
 
 use crate::{Read, Sink, Source, Wrote};
@@ -45,7 +45,8 @@ fn read_piece<S: Source>(source: &mut S, bytes: &mut Vec<u8>) -> Result<bool, St
         GotPiece more bytes.old.items bytes.new.items (S.left source.old) (S.left source.new)) }
     ensures stop { IfErr result IsPieceStop }
     ensures counted { OnOk result (S.faults source.new ≡ S.faults source.old) }
-    ensures fault { IsErrOf result Stop.ReadFault → Rose (S.faults source.old) (S.faults source.new) }
+    ensures fault { IsErrOf result Stop.ReadFault
+        → Rose (S.faults source.old) (S.faults source.new) }
     ensures later { S.faults source.old ≤ S.faults source.new }
 {
     let mut piece = [0u8; PIECE];
@@ -68,10 +69,12 @@ pub fn read_input<S: Source>(alloc: Global, source: &mut S) -> Result<Vec<u8>, S
     ensures short { IfOk result (λ bytes. length bytes.items ≤ INPUT_LIMIT) }
     ensures counted { OnOk result (S.faults source.new ≡ S.faults source.old) }
     ensures stop { IfErr result IsReadStop }
-    ensures fault { IsErrOf result Stop.ReadFault → Rose (S.faults source.old) (S.faults source.new) }
-    ensures long { IsErrOf result Stop.TooLong → IfSome (S.left source.old) (λ left. INPUT_LIMIT < length left) }
-    ensures stopped { IsErrOf result Stop.TooLong →
-        TookCount (INPUT_LIMIT + 1) (S.left source.old) (S.left source.new) }
+    ensures fault { IsErrOf result Stop.ReadFault
+        → Rose (S.faults source.old) (S.faults source.new) }
+    ensures long { IsErrOf result Stop.TooLong
+        → IfSome (S.left source.old) (λ left. INPUT_LIMIT < length left) }
+    ensures stopped { IsErrOf result Stop.TooLong
+        → TookCount (INPUT_LIMIT + 1) (S.left source.old) (S.left source.new) }
     ensures later { S.faults source.old ≤ S.faults source.new }
 {
     let mut bytes = Vec::new(alloc);
@@ -85,8 +88,7 @@ pub fn read_input<S: Source>(alloc: Global, source: &mut S) -> Result<Vec<u8>, S
 
 /// Writes all of these bytes. Where a write fails, a front of them was written.
 pub fn write_all<K: Sink>(sink: &mut K, bytes: &[u8]) -> Result<(), Stop>
-    ensures all { OnOk result (K.written sink.new
-        ≡ option_map (λ old. old ++ bytes.now) (K.written sink.old)) }
+    ensures all { OnOk result (Added bytes.now (K.written sink.old) (K.written sink.new)) }
     ensures front { OnErr result (WroteFront bytes.now (K.written sink.old) (K.written sink.new)) }
     ensures counted { OnOk result (K.faults sink.new ≡ K.faults sink.old) }
     ensures stop { IfErr result (λ stop. stop ≡ Stop.WriteFault) }

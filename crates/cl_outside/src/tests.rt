@@ -186,5 +186,8 @@ fn a_standard_clock_counts_ticks_from_its_making(rt: HostRuntime) {
     let first = clock.now();
     thread::sleep(&rt, Duration::from_millis(30));
     let second = clock.now();
-    assert!(rt; first + 3 <= second, "{first} and then {second}");
+    assert!(rt;
+        first.saturating_add(3) <= second,
+        "{first} and then {second}"
+    );
 }

@@ -66,8 +66,8 @@ pub trait Wire {
 
     /// Gives the wire a port: this one, or any that is free where it is 0.
     fn bind(&mut self, port: u16) -> Bound
-        ensures last_bind { last_bind self.new
-            ≡ option_map (λ _. Some (record { asked = port; answer = result })) (last_bind self.old) }
+        ensures last_bind { last_bind self.new ≡ option_map
+            (λ _. Some (record { asked = port; answer = result })) (last_bind self.old) }
         ensures coming { coming self.new ≡ coming self.old }
         ensures sent { sent self.new ≡ sent self.old }
         ensures idles { idles self.new ≡ idles self.old }

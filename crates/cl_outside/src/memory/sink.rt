@@ -31,7 +31,11 @@ impl MemorySink {
     /// A sink with nothing written, and no call made yet. It keeps the list, and takes no memory
     /// before the first write.
     pub fn create(alloc: Global, fails: Vec<u64>) -> MemorySink
-        ensures { result ≡ record { written = []; plan = record { fails = fails.items; calls = 0 }; faults = 0 } }
+        ensures { result ≡ record {
+          written = [];
+          plan = record { fails = fails.items; calls = 0 };
+          faults = 0;
+        } }
     {
         MemorySink {
             bytes: Vec::new(alloc),

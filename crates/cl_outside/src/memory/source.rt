@@ -27,7 +27,11 @@ impl Model for MemorySource {
 
     ghost Value = { Feed };
 
-    ghost view = { λ s. record { left = drop s.at s.bytes.items; plan = s.plan; faults = s.faults } };
+    ghost view = { λ s. record {
+      left = drop s.at s.bytes.items;
+      plan = s.plan;
+      faults = s.faults;
+    } };
 
     ghost invariant = { λ s. s.at ≤ length s.bytes.items };
 }
@@ -35,7 +39,11 @@ impl Model for MemorySource {
 impl MemorySource {
     /// A source of all of these bytes, with no call made yet. It keeps both lists.
     pub fn create(bytes: Vec<u8>, fails: Vec<u64>) -> MemorySource
-        ensures { result ≡ record { left = bytes.items; plan = record { fails = fails.items; calls = 0 }; faults = 0 } }
+        ensures { result ≡ record {
+          left = bytes.items;
+          plan = record { fails = fails.items; calls = 0 };
+          faults = 0;
+        } }
     {
         MemorySource {
             bytes,

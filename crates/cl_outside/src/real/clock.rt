@@ -1,6 +1,6 @@
 //! `StdClock`: the system's clock, in ticks.
 
-ghost use Rattle.std.specs.Prelude.{None};
+ghost use Rattle.std.specs.Prelude.{◌≡◌, None};
 
 use crate::Clock;
 use crate::real::TICK_MILLIS;
@@ -19,7 +19,9 @@ pub struct StdClock<C> {
 
 impl<C: time::Clock> StdClock<C> {
     /// A clock at 0, over this clock of the system, as `&rt`.
-    pub fn create(system: C) -> Self {
+    pub fn create(system: C) -> Self
+        ensures { result.last ≡ 0 }
+    {
         let start = Instant::now(&system).ok();
         StdClock {
             system,

@@ -1,5 +1,5 @@
 use Rattle.std.proofs.Common.{◌≡◌, ◌≤◌, ◌+◌, ◌-◌, length}
-use Rattle.cl_outside.specs.Loops.{Took}
+use Rattle.cl_outside.specs.Told.{Took}
 use Rattle.cl_outside.specs.declared.loops.TheConstants.{INPUT_LIMIT}
 use Rattle.cl_outside.proofs.loops.read_input.Given as goal
 

@@ -1,11 +1,11 @@
-use Rattle.std.proofs.Common.{◌≡◌, ◌≤◌, ◌-◌, ◌++◌, length, take}
-use Rattle.std.specs.Option.{option_map}
+use Rattle.std.proofs.Common.{◌≡◌, ◌≤◌, ◌-◌, length, take}
+use Rattle.cl_outside.specs.Told.{Added}
 use Rattle.cl_outside.proofs.loops.write_all.Given as goal
 
--- the bytes done were written, and no write has failed
+-- the first `done` bytes were written, and no write has failed
 abbrev pub invariant-loop-done : goal.invariant-loop-done
 invariant-loop-done g l =
-    (g.K.Sink.written l.sink ≡ option_map (λ old. old ++ take l.done l.bytes) (g.K.Sink.written l.fn.sink))
+    Added (take l.done l.bytes) (g.K.Sink.written l.fn.sink) (g.K.Sink.written l.sink)
     × (g.K.Sink.faults l.sink ≡ g.K.Sink.faults l.fn.sink)
     × (l.done ≤ length l.bytes)
 
