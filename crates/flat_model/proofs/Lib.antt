@@ -13,6 +13,9 @@ pub mod FaultlessFrameLemmas
 pub mod FaultlessRequestLemmas
 pub mod FaultlessReplyLemmas
 pub mod FrameKindLemmas
+mod CommandRows
+mod HistoryRows
+mod LoopRows
 pub mod BucketLemmas
 pub mod ChangeLemmas
 pub mod CheckLemmas

@@ -64,3 +64,14 @@ is_over frames idles s = s.failed || leb frames s.served || leb idles s.idles
 abbrev pub served_over : {Peer : Type 0} → (frames idles : ℕ) → Serving Peer → List (Received Peer) → Serving Peer
 served_over frames idles s [] = elim (is_over frames idles s) [ true ↦ s | false ↦ record s { idles = idles } ]
 served_over frames idles s (r ∷ rs) = elim (is_over frames idles s) [ true ↦ s | false ↦ served_over frames idles (turn s r) rs ]
+
+-- ---- the end
+-- the end of a run of serving
+pub data ServeStop : Type 0 where
+  WireFailed : ServeStop
+  FramesServed : ServeStop
+  IdleTooLong : ServeStop
+
+-- the end that holds, the wire's failing before the count of datagrams, and that before idleness
+abbrev pub serve_stop : {Peer : Type 0} → (frames : ℕ) → Serving Peer → ServeStop
+serve_stop frames s = if s.failed then WireFailed else if leb frames s.served then FramesServed else IdleTooLong

@@ -40,6 +40,7 @@ use Rattle.flat_model.specs.declared.open_fault.OpenFault.{OpenFault}
 use Rattle.flat_model.specs.declared.open_fault.OpenFault.TheVariants.{BadConfig, NoRoom, NoMemory}
 use Rattle.flat_model.specs.Text.{Text, words, dotted, line_of, line_end}
 use Rattle.flat_model.specs.Account.{Account, Line}
+use Rattle.flat_model.specs.Driving.{Printed, NotIssued, Answered}
 use Rattle.flat_model.specs.Events.{account}
 use Rattle.flat_model.specs.Frames.{refusal_in}
 
@@ -212,6 +213,12 @@ account_text a =
 -- the transcript of a schedule
 abbrev pub transcript : Schedule → Text
 transcript s = s.header ++ account_text (account s.config s.events)
+
+-- ---- what a driven client prints
+-- one line for a call that was not taken, or that ended, by its line in the script
+abbrev pub printed_text : Printed → Text
+printed_text (NotIssued line fault) = line_of (decimal line ∷ codes "not issued" ∷ fault_text fault ∷ [])
+printed_text (Answered line ended) = line_of (decimal line ∷ answer_text ended.answer ended.bytes ∷ [])
 
 -- ---- the lines of faults
 -- the words for what is wrong with a line

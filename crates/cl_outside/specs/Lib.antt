@@ -1,0 +1,12 @@
+pub mod Counts
+pub mod Told
+pub mod Source
+pub mod Sink
+pub mod Wire
+pub mod Bind
+pub mod Receive
+pub mod Send
+pub mod Clock
+pub mod Plan
+pub mod Memory
+pub mod Loops

@@ -1,0 +1,107 @@
+//! Reading an input to its end, and writing all bytes.
+
+ghost use Rattle.std.specs.Prelude.{◌≡◌, ◌<◌, ◌≤◌, ◌+◌, ◌++◌, [], length, IfOk, OnOk, IfErr, OnErr, IfSome, IsErrOf};
+ghost use Rattle.cl_outside.specs.Counts.{Rose};
+ghost use Rattle.cl_outside.specs.Told.{Added};
+ghost use Rattle.cl_outside.specs.Loops.{GotPiece, IsPieceStop, IsReadStop, TookCount, WroteFront};
+
+use crate::{Read, Sink, Source, Wrote};
+use std::alloc::{AllocError, Global};
+
+/// The largest number of bytes of an input.
+pub const INPUT_LIMIT: usize = 16_777_216;
+
+// How many bytes are read at once.
+const PIECE: usize = 4096;
+
+/// Why an input was not read to its end, or not all bytes were written.
+#[derive(Clone, Copy, Debug, PartialEq, Eq)]
+pub enum Stop {
+    /// A read failed: the source's count of faults rose.
+    ReadFault,
+    /// The input has more than `INPUT_LIMIT` bytes.
+    TooLong,
+    /// There was no memory to keep what was read.
+    NoMemory,
+    /// A write failed: the sink's count of faults rose.
+    WriteFault,
+}
+
+impl From<AllocError> for Stop {
+    ghost use Rattle.std.specs.Prelude.{◌≡◌};
+    ghost use Rattle.cl_outside.specs.declared.loops.Stop.TheVariants.{NoMemory};
+
+    ghost from_gives = { λ _ stop. stop ≡ NoMemory };
+
+    fn from(_error: AllocError) -> Self {
+        Stop::NoMemory
+    }
+}
+
+// Reads one piece and appends it. False says that the input has ended.
+fn read_piece<S: Source>(source: &mut S, bytes: &mut Vec<u8>) -> Result<bool, Stop>
+    requires { length bytes.old.items ≤ INPUT_LIMIT }
+    ensures got { IfOk result (λ more.
+        GotPiece more bytes.old.items bytes.new.items (S.left source.old) (S.left source.new)) }
+    ensures stop { IfErr result IsPieceStop }
+    ensures counted { OnOk result (S.faults source.new ≡ S.faults source.old) }
+    ensures fault { IsErrOf result Stop.ReadFault
+        → Rose (S.faults source.old) (S.faults source.new) }
+    ensures later { S.faults source.old ≤ S.faults source.new }
+{
+    let mut piece = [0u8; PIECE];
+    let room = (INPUT_LIMIT + 1 - bytes.len()).min(PIECE);
+    match source.read(&mut piece[..room]) {
+        Read::Got(count) => {
+            bytes.extend_from_slice(&piece[..count])?;
+            Ok(true)
+        }
+        Read::End => Ok(false),
+        Read::Failed => Err(Stop::ReadFault),
+    }
+}
+
+/// Reads an input to its end. An input of more than `INPUT_LIMIT` bytes is read up to the first
+/// byte that is too many.
+pub fn read_input<S: Source>(alloc: Global, source: &mut S) -> Result<Vec<u8>, Stop>
+    ensures all { IfOk result (λ bytes. IfSome (S.left source.old) (λ left. bytes.items ≡ left)) }
+    ensures end { OnOk result (IfSome (S.left source.new) (λ left. left ≡ [])) }
+    ensures short { IfOk result (λ bytes. length bytes.items ≤ INPUT_LIMIT) }
+    ensures counted { OnOk result (S.faults source.new ≡ S.faults source.old) }
+    ensures stop { IfErr result IsReadStop }
+    ensures fault { IsErrOf result Stop.ReadFault
+        → Rose (S.faults source.old) (S.faults source.new) }
+    ensures long { IsErrOf result Stop.TooLong
+        → IfSome (S.left source.old) (λ left. INPUT_LIMIT < length left) }
+    ensures stopped { IsErrOf result Stop.TooLong
+        → TookCount (INPUT_LIMIT + 1) (S.left source.old) (S.left source.new) }
+    ensures later { S.faults source.old ≤ S.faults source.new }
+{
+    let mut bytes = Vec::new(alloc);
+    while bytes.len() <= INPUT_LIMIT {
+        if !read_piece(source, &mut bytes)? {
+            return Ok(bytes);
+        }
+    }
+    Err(Stop::TooLong)
+}
+
+/// Writes all of these bytes. Where a write fails, a front of them was written.
+pub fn write_all<K: Sink>(sink: &mut K, bytes: &[u8]) -> Result<(), Stop>
+    ensures all { OnOk result (Added bytes.now (K.written sink.old) (K.written sink.new)) }
+    ensures front { OnErr result (WroteFront bytes.now (K.written sink.old) (K.written sink.new)) }
+    ensures counted { OnOk result (K.faults sink.new ≡ K.faults sink.old) }
+    ensures stop { IfErr result (λ stop. stop ≡ Stop.WriteFault) }
+    ensures fault { OnErr result (Rose (K.faults sink.old) (K.faults sink.new)) }
+    ensures later { K.faults sink.old ≤ K.faults sink.new }
+{
+    let mut done = 0;
+    while done < bytes.len() {
+        let (_, rest) = bytes.split_at(done);
+        match sink.write(rest) {
+            Wrote::Put(count) => done += count,
+            Wrote::Failed => return Err(Stop::WriteFault),
+        }
+    }
+    Ok(())
+}

@@ -1,0 +1,139 @@
+//! `UdpWire`: datagrams of UDP on 127.0.0.1.
+
+ghost use Rattle.std.specs.Prelude.{◌≡◌, ◌≤◌, None, IfOk, length};
+
+use crate::front::copy_front;
+use crate::real::TICK_MILLIS;
+use crate::{Bound, Peer, Recv, Sent, Wire};
+use std::io;
+use std::io::ErrorKind;
+use std::net::{Ipv4Addr, Net, SocketAddr, SocketAddrV4, UdpSocket};
+use std::time::Duration;
+
+// How many bytes of a datagram are received; the rest of a longer one is lost.
+const DATAGRAM_BYTES: usize = 2048;
+
+/// A socket on 127.0.0.1. A receive waits one tick, 10 milliseconds, before it is idle. Each error
+/// of the system is a fault, and so is a receive or a send with no port.
+#[derive(Drop)]
+pub struct UdpWire<N> {
+    net: N,
+    // `None` where the wire has no port.
+    socket: Option<UdpSocket>,
+    faults: u64,
+    idles: u64,
+}
+
+impl<N: Net> UdpWire<N> {
+    /// A wire with no port, over this network, as `&rt`.
+    pub fn create(net: N) -> Self
+        ensures faults { result.faults ≡ 0 }
+        ensures idles { result.idles ≡ 0 }
+    {
+        UdpWire {
+            net,
+            socket: None,
+            faults: 0,
+            idles: 0,
+        }
+    }
+
+    // A socket at this port, and the port that it got.
+    fn open(&self, port: u16) -> io::Result<(UdpSocket, u16)> {
+        let address = SocketAddr::V4(SocketAddrV4::new(Ipv4Addr::LOCALHOST, port));
+        let socket = UdpSocket::bind(&self.net, address)?;
+        socket.set_read_timeout(Some(Duration::from_millis(TICK_MILLIS)))?;
+        let port = socket.local_addr()?.port();
+        Ok((socket, port))
+    }
+
+    // Receives into the front of the buffer, and tells how many bytes came, and from where.
+    fn receive(&self, buf: &mut [u8]) -> io::Result<(usize, Peer)>
+        ensures { IfOk result (λ got. got.0 ≤ length buf.new) }
+    {
+        let (len, from) = self.socket()?.recv_from(buf)?;
+        let SocketAddr::V4(from) = from else {
+            return Err(io::Error::from(ErrorKind::AddrNotAvailable));
+        };
+        let peer = Peer {
+            ip: from.ip().to_bits(),
+            port: from.port(),
+        };
+        Ok((len, peer))
+    }
+
+    fn socket(&self) -> io::Result<&UdpSocket> {
+        match &self.socket {
+            Some(socket) => Ok(socket),
+            None => Err(io::Error::from(ErrorKind::NotConnected)),
+        }
+    }
+
+    fn send_to(&self, to: Peer, bytes: &[u8]) -> io::Result<usize> {
+        let address = SocketAddrV4::new(Ipv4Addr::from_bits(to.ip), to.port);
+        self.socket()?.send_to(bytes, SocketAddr::V4(address))
+    }
+}
+
+// The wait was over, or the process was stopped while it waited.
+fn is_wait_over(error: &io::Error) -> bool {
+    matches!(
+        error.kind(),
+        ErrorKind::WouldBlock | ErrorKind::TimedOut | ErrorKind::Interrupted
+    )
+}
+
+impl<N: Net> Wire for UdpWire<N> {
+    ghost coming = { λ _. None };
+
+    ghost sent = { λ _. None };
+
+    ghost last_bind = { λ _. None };
+
+    ghost faults = { λ s. s.faults };
+
+    ghost idles = { λ s. s.idles };
+
+    fn bind(&mut self, port: u16) -> Bound {
+        // So that a port that the wire has can be asked again.
+        self.socket = None;
+        match self.open(port) {
+            Ok((socket, port)) => {
+                self.socket = Some(socket);
+                Bound::Port(port)
+            }
+            Err(_) => {
+                self.faults = self.faults.saturating_add(1);
+                Bound::Failed
+            }
+        }
+    }
+
+    fn recv(&mut self, buf: &mut [u8]) -> Recv {
+        let mut datagram = [0u8; DATAGRAM_BYTES];
+        match self.receive(&mut datagram) {
+            Ok((len, from)) => Recv::Got {
+                len: copy_front(&datagram[..len], buf),
+                from,
+            },
+            Err(error) if is_wait_over(&error) => {
+                self.idles = self.idles.saturating_add(1);
+                Recv::Idle
+            }
+            Err(_) => {
+                self.faults = self.faults.saturating_add(1);
+                Recv::Failed
+            }
+        }
+    }
+
+    fn send(&mut self, to: Peer, bytes: &[u8]) -> Sent {
+        match self.send_to(to, bytes) {
+            Ok(count) if count == bytes.len() => Sent::Sent,
+            _ => {
+                self.faults = self.faults.saturating_add(1);
+                Sent::Failed
+            }
+        }
+    }
+}
