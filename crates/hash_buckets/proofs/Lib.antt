@@ -1,0 +1,4 @@
+pub mod Bucket
+pub mod Tables
+pub mod Loads
+pub mod Calls
