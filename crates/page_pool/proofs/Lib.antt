@@ -1,0 +1,4 @@
+pub mod Members
+pub mod Parts
+pub mod Zeros
+pub mod Filling

@@ -1,0 +1,2 @@
+pub mod PoolPages
+pub mod Kept
