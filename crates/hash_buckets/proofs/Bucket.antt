@@ -88,6 +88,7 @@ look-cut_none (Some t ∷ ss) (suc i) q h = elim (split_place q (place_of t)) [
   | inr v ↦ rw v.1 (look-cut_none ss i q (rw v.1 at h))
 ]
 
+-- no page stands twice after a slot is emptied
 pub IsApart-cut : (b : List (Option Slot)) (i : ℕ) → IsApart b → IsApart (set b i None)
 IsApart-cut [] i apart = tt
 IsApart-cut (None ∷ ss) zero apart = apart
@@ -95,6 +96,7 @@ IsApart-cut (Some t ∷ ss) zero apart = apart.1
 IsApart-cut (None ∷ ss) (suc i) apart = IsApart-cut ss i apart
 IsApart-cut (Some t ∷ ss) (suc i) apart = (look-cut_none ss i (place_of t) apart.0, IsApart-cut ss i apart.1)
 
+-- nor after a new page is put in a free one
 pub IsApart-put : (b : List (Option Slot)) (i : ℕ) (s : Slot) → i < length b → get_or b i None ≡ None → look b (place_of s) ≡ None → IsApart b → IsApart (set b i (Some s))
 IsApart-put [] i s lt free absent apart = absurd (omega arith)
 IsApart-put (None ∷ ss) zero s lt free absent apart = (absent, apart)
@@ -109,6 +111,7 @@ IsApart-put (Some t ∷ ss) (suc i) s lt free absent apart = elim (split_place (
 ]
 
 module _ (buckets h : ℕ) where
+  -- all pages are of their home after a slot is emptied
   pub IsHome-cut : (b : List (Option Slot)) (i : ℕ) → IsHome buckets h b → IsHome buckets h (set b i None)
   IsHome-cut [] i home = tt
   IsHome-cut (None ∷ ss) zero home = home
@@ -116,6 +119,7 @@ module _ (buckets h : ℕ) where
   IsHome-cut (None ∷ ss) (suc i) home = IsHome-cut ss i home
   IsHome-cut (Some t ∷ ss) (suc i) home = (home.0, IsHome-cut ss i home.1)
 
+  -- and after a page of this home is put in
   pub IsHome-put : (b : List (Option Slot)) (i : ℕ) (s : Slot) → home_of buckets (place_of s) ≡ h → IsHome buckets h b → IsHome buckets h (set b i (Some s))
   IsHome-put [] i s at home = tt
   IsHome-put (None ∷ ss) zero s at home = (at, home)
@@ -128,6 +132,7 @@ pub find-in_order : (es : List (Place × Pte)) (q : Place) → find place_cmp q 
 find-in_order [] q = refl
 find-in_order (e ∷ es) q = find-put place_cmp place_total q e.0 e.1 (in_order es) ∙ ap (cond (same_place q e.0) (Some e.1)) (find-in_order es q)
 
+-- and the order is that of the pages
 pub is_sorted-in_order : (es : List (Place × Pte)) → T (is_sorted place_cmp (in_order es))
 is_sorted-in_order [] = tt
 is_sorted-in_order (e ∷ es) = is_sorted-put place_cmp place_total e.0 e.1 (in_order es) (is_sorted-in_order es)

@@ -28,6 +28,7 @@ pub record Leaves (bs : List (List (Option Slot))) (v : PageMap) : Type 0 where
   pub map : page_map bs ≡ v
   pub valid : IsValid (page_map bs)
 
+-- what contracts see of sound buckets is valid
 leaves : (bs : List (List (Option Slot))) (v : PageMap) → IsSound bs → page_map bs ≡ v → Leaves bs v
 leaves bs v sound map = record { sound = sound; map = map; valid = valid_map sound }
 
@@ -43,6 +44,7 @@ module _ {bs : List (List (Option Slot))} (sound : IsSound bs) (v : PageMap) (e 
     in_table : h < length bs
     in_table = omega (arith, length_is)
 
+    -- the load of a home is the number of full slots of its bucket
     pub load_is : load v h ≡ count_by is_some x
     load_is = ap (λ (w : PageMap). load w h) (sym e) ∙ load-page_map sound h ∙ ap (count_by is_some) (sym is)
 
@@ -54,12 +56,15 @@ module _ {bs : List (List (Option Slot))} (sound : IsSound bs) (v : PageMap) (e 
       home_is : h ≡ home_of (length bs) q
       home_is = at ∙ ap (λ n. home_of n q) length_is
 
+      -- it has what the table has at the page
       pub looks : look x q ≡ entry_of v q
       looks = ap (λ b. look b q) is ∙ ap (λ i. look (bucket_at bs i) q) home_is ∙ sym (entry_of-page_map sound q) ∙ ap (λ (w : PageMap). entry_of w q) e
 
+      -- it has a free slot where its home has room
       pub has_room : load v (home_of v.buckets q) < 4 → count_by is_some x < length x
       has_room room = omega (arith, slots_are, load_is, ap (load v) at, room)
 
+      -- it has the page where the page is mapped
       pub is_there : is_some (entry_of v q) ≡ true → is_some (look x q) ≡ true
       is_there there = rw looks there
 

@@ -34,6 +34,7 @@ AreHomes buckets a bs = (i : ℕ) → i < length bs → IsHome buckets (a + i) (
 AreHomes-rest : (buckets a : ℕ) (b : List (Option Slot)) (bs : List (List (Option Slot))) → AreHomes buckets a (b ∷ bs) → AreHomes buckets (a + 1) bs
 AreHomes-rest buckets a b bs homes i lt = let e : a + 1 + i ≡ a + suc i = omega arith in rw e (homes (suc i) (omega arith))
 
+-- a page is not found where no bucket is its home
 find-all_none : (buckets a : ℕ) (bs : List (List (Option Slot))) (q : Place) → AreHomes buckets a bs → ((i : ℕ) → i < length bs → home_of buckets q ≢ a + i)
     → find place_cmp q (all_entries bs) ≡ None
 find-all_none buckets a [] q homes other = refl
@@ -41,6 +42,7 @@ find-all_none buckets a (b ∷ bs) q homes other =
     find-append_none (slot_entries b) (all_entries bs) q (look-other buckets (a + 0) b q (homes 0 (omega arith)) (other 0 (omega arith)))
     ∙ find-all_none buckets (a + 1) bs q (AreHomes-rest buckets a b bs homes) (λ i lt e. other (suc i) (omega arith) (omega arith))
 
+-- and else it is found in the bucket of its home
 find-all_at : (buckets a : ℕ) (bs : List (List (Option Slot))) (q : Place) (i : ℕ) → AreHomes buckets a bs → i < length bs → home_of buckets q ≡ a + i
     → find place_cmp q (all_entries bs) ≡ look (bucket_at bs i) q
 find-all_at buckets a [] q i homes lt at = absurd (omega arith)
@@ -69,6 +71,7 @@ not_same : (b : Bool) (x : Option Pte) → cond (not b) x None ≡ cond b None x
 not_same true x = refl
 not_same false x = refl
 
+-- what is found when a page is taken out
 pub find-without_page : (es : List (Place × Pte)) (k q : Place) → find place_cmp q (without_page k es) ≡ cond (same_place q k) None (find place_cmp q es)
 find-without_page es k q =
     find-where_key place_cmp (λ x. not (same_place k x)) q (λ x e. ap (λ y. not (same_place k y)) (sym (place_exact q x e))) es
@@ -78,6 +81,7 @@ T-true : (b : Bool) → T b → b ≡ true
 T-true true h = refl
 T-true false h = absurd h
 
+-- a page has this home or another
 split_home : (buckets : ℕ) (q : Place) (h : ℕ) → ((home_of buckets q ≡ h) × (eqb (home_of buckets q) h ≡ true)) ⊎ ((home_of buckets q ≢ h) × (eqb (home_of buckets q) h ≡ false))
 split_home buckets q h = elim (cases_eq (home_of buckets q) h) [ inl e ↦ inl (e, eq-eqb _ _ e) | inr n ↦ inr (n, ne_eqb _ _ n) ]
 
@@ -121,6 +125,7 @@ module _ {bs : List (List (Option Slot))} (sound : IsSound bs) where
   at_most_four : (h : ℕ) → length (bucket_at bs h) ≤ 4
   at_most_four h = elim (cases_lt h (length bs)) [ inl lt ↦ omega (arith, sound.slots h lt) | inr ge ↦ omega (arith, ap length (past h ge)) ]
 
+  -- what contracts see is valid
   pub valid_map : IsValid (page_map bs)
   valid_map = record {
     counted = sound.counted;
@@ -160,16 +165,19 @@ module _ {bs : List (List (Option Slot))} (sound : IsSound bs) (h : ℕ) (k : Pl
             rw (get_or-set_other bs h (home_of (length bs) q) b [] n, other) (sym (entry_of-page_map sound q))
       ])
 
+  -- what contracts see then, by what is found
   page_map-write : (entries : List (Place × Pte)) → T (is_sorted place_cmp entries) → ((q : Place) → find place_cmp q entries ≡ cond (same_place q k) pte (find place_cmp q (page_map bs).entries))
       → page_map (set bs h b) ≡ record (page_map bs) { entries = entries }
   page_map-write entries sorted finds =
       let same : (page_map (set bs h b)).entries ≡ entries = same_entries place_cmp place_total place_exact _ _ (is_sorted-in_order (all_entries (set bs h b))) sorted (λ q. find-write q ∙ sym (finds q)) in
       rw (length-set bs h b) (ap (λ n. record { buckets = length bs; entries = n }) same)
 
+  -- a page has this entry
   pub page_map-put : (new : Pte) → pte ≡ Some new → page_map (set bs h b) ≡ with_entry (page_map bs) k new
   page_map-put new is = page_map-write _ (is_sorted-put place_cmp place_total k new _ (is_sorted-in_order (all_entries bs)))
       (λ q. find-put place_cmp place_total q k new (page_map bs).entries ∙ ap (λ o. cond (same_place q k) o (find place_cmp q (page_map bs).entries)) (sym is))
 
+  -- a page has none
   pub page_map-cut : pte ≡ None → page_map (set bs h b) ≡ without_entry (page_map bs) k
   page_map-cut is = page_map-write _ (is_sorted-where_key place_cmp (λ x. not (same_place k x)) (page_map bs).entries (is_sorted-in_order (all_entries bs)))
       (λ q. find-without_page (page_map bs).entries k q ∙ ap (λ o. cond (same_place q k) o (find place_cmp q (page_map bs).entries)) (sym is))

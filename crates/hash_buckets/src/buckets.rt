@@ -18,10 +18,13 @@ pub struct Slot {
     pub pte: Pte,
 }
 
+// Begun at a multiple of 16, a bucket lies in two lines of 64 bytes at most.
+const _: () = prove!(size_of::<[Option<Slot>; SLOTS]>() <= 80);
+
 /// The buckets, by their numbers.
 #[derive(Drop)]
 pub struct Buckets {
-    // In one piece, bucket after bucket, so that a bucket lies in one or two lines of a cache.
+    // In one piece, bucket after bucket.
     pub slots: Vec<[Option<Slot>; SLOTS]>,
 }
 

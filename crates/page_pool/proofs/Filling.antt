@@ -9,9 +9,11 @@ use Rattle.index_lists.specs.NodeLists.{NodeLists, has, list_at, IsFree, with_li
 use Rattle.index_lists.proofs.Linking.{split_eq}
 use Rattle.page_pool.specs.Kept.{IsSound}
 
+-- a range with one more number at its end
 pub range_push : (a n : ℕ) → range_with_len a (n + 1) ≡ range_with_len a n ++ (a + n) ∷ []
 range_push a n = sym (map-id _) ∙ map-range_with_len_more (λ x. x) a n (a + n) refl ∙ ap (λ (xs : List ℕ). xs ++ (a + n) ∷ []) (map-id _)
 
+-- a range in two pieces
 range_append : (a m n : ℕ) → range_with_len a m ++ range_with_len (a + m) n ≡ range_with_len a (m + n)
 range_append a zero n = let e : a + 0 ≡ a = omega arith in let f : 0 + n ≡ n = omega arith in rw (e, f) refl
 range_append a (suc m) n =
@@ -19,6 +21,7 @@ range_append a (suc m) n =
     let f : suc m + n ≡ suc (m + n) = omega arith in
     rw (e, f) (ap (λ (xs : List ℕ). a ∷ xs) (range_append (a + 1) m n))
 
+-- the numbers of a range
 has-range : (a n p : ℕ) → has (range_with_len a n) p ≡ true → (a ≤ p) × (p < a + n)
 has-range a zero p h = absurd cc
 has-range a (suc n) p h = elim (split_eq p a) [
@@ -26,9 +29,11 @@ has-range a (suc n) p h = elim (split_eq p a) [
   | inr f ↦ let rest = has-range (a + 1) n p (rw f.1 at h) in (omega (arith, rest.0), omega (arith, rest.1))
 ]
 
+-- and no others
 pub not_in_range : (a n p : ℕ) → a + n ≤ p → has (range_with_len a n) p ≡ false
 not_in_range a n p le = elim (cases_Bool (has (range_with_len a n) p)) [ inl t ↦ absurd (omega (arith, (has-range a n p t).1)) | inr f ↦ f ]
 
+-- none of them twice
 IsDistinct-range : (a n : ℕ) → IsDistinct eqb (range_with_len a n)
 unfolding IsDistinct
 IsDistinct-range a zero = tt
@@ -39,12 +44,15 @@ IsDistinct-range a (suc n) = (apart a (a + 1) n (omega arith), IsDistinct-range 
     apart x a (suc n) lt = (ne_eqb x a (λ e. omega arith), apart x (a + 1) n (omega arith))
 
 module _ (count ring page : ℕ) where
+  -- the ring when the pages below `page` are put in
   abbrev pub filled_at : Buffer ℕ
   filled_at = buffer (range_with_len 0 (min page ring)) ring
 
+  -- the lists then
   abbrev pub lists_at : NodeLists
   lists_at = record { nodes = count; lists = range_with_len (min page ring) (page - ring) ∷ [] ∷ [] }
 
+  -- the next page is in neither
   pub free_at : (lists : NodeLists) → lists ≡ lists_at → ring ≤ page → IsFree lists page
   free_at lists e le l = ap (λ (w : NodeLists). has (list_at w l) page) e ∙ at l
     where
@@ -53,6 +61,7 @@ module _ (count ring page : ℕ) where
       at (suc zero) = refl
       at (suc (suc l)) = refl
 
+-- a page more in the ring
 pub fill_ring : (count ring page : ℕ) (b b' : Buffer ℕ) → b ≡ filled_at count ring page → page < ring → b' ≡ buffer (keep_last b.capacity (b.items ++ page ∷ [])) b.capacity → b' ≡ filled_at count ring (page + 1)
 fill_ring count ring page b b' e lt eb =
     let small : min page ring ≡ page = omega arith in
@@ -61,6 +70,7 @@ fill_ring count ring page b b' e lt eb =
     let none : length (range_with_len 0 (page + 1)) - ring ≡ 0 = omega (arith, length-range_with_len 0 (page + 1)) in
     rw (eb, e) (rw (small, more, pushed, none) refl)
 
+-- a page more in the clean list
 pub fill_clean : (count ring page : ℕ) (lists lists' : NodeLists) → lists ≡ lists_at count ring page → ring ≤ page → lists' ≡ with_list lists 0 (list_at lists 0 ++ page ∷ []) → lists' ≡ lists_at count ring (page + 1)
 fill_clean count ring page lists lists' e le el =
     let small : min page ring ≡ ring = omega arith in
@@ -69,18 +79,21 @@ fill_clean count ring page lists lists' e le el =
     let last : ring + (page - ring) ≡ page = omega arith in
     rw (el, e) (rw (small, more, next, range_push ring (page - ring), last) refl)
 
+-- the clean list stays while the ring fills
 pub keep_clean : (count ring page : ℕ) (lists : NodeLists) → lists ≡ lists_at count ring page → page < ring → lists ≡ lists_at count ring (page + 1)
 keep_clean count ring page lists e lt =
     let none : page - ring ≡ 0 = omega arith in
     let none' : page + 1 - ring ≡ 0 = omega arith in
     e ∙ rw (none, none') refl
 
+-- the ring stays once it is full
 pub keep_ring : (count ring page : ℕ) (b : Buffer ℕ) → b ≡ filled_at count ring page → ring ≤ page → b ≡ filled_at count ring (page + 1)
 keep_ring count ring page b e le =
     let old : min page ring ≡ ring = omega arith in
     let new : min (page + 1) ring ≡ ring = omega arith in
     e ∙ rw (old, new) refl
 
+-- the pool when all pages are put in
 pub all_free : (count ring page : ℕ) (b : Buffer ℕ) (lists : NodeLists) → count ≤ 65536 → 1 ≤ ring → page ≡ count → b ≡ filled_at count ring page → lists ≡ lists_at count ring page → IsSound b lists count
 all_free count ring page b lists few some end eb el =
     let m = min count ring in

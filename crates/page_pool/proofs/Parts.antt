@@ -62,9 +62,11 @@ module _ (ring : Buffer ℕ) (lists : NodeLists) (free : ℕ) (s : IsSound ring 
       at_list (suc zero) a b = b
       at_list (suc (suc l)) a b = let past : list_at lists (suc (suc l)) ≡ [] = get_or_past lists.lists (suc (suc l)) [] (omega (arith, s.two)) in rw past refl
 
+  -- the count of free pages has room for one more
   pub free_fits : free ≤ 65536
   free_fits = omega (arith, s.counted, s.few, few_free (pool_pages ring lists) s.parted)
 
+  -- the fields after a release
   pub released_sound : (p : ℕ) (lists' : NodeLists) → IsTaken v p → lists' ≡ with_list lists 1 (list_at lists 1 ++ p ∷ []) → IsSound ring lists' (free + 1)
   released_sound p lists' taken el =
       let here : list_at (with_list lists 1 (list_at lists 1 ++ p ∷ [])) 1 ≡ list_at lists 1 ++ p ∷ [] = get_or-set_same lists.lists 1 (list_at lists 1 ++ p ∷ []) [] (omega (arith, s.two)) in
@@ -81,6 +83,7 @@ module _ (ring : Buffer ℕ) (lists : NodeLists) (free : ℕ) (s : IsSound ring 
         parted = rw new (released (pool_pages ring lists) p s.parted was);
       })
 
+  -- the fields after a take
   pub take_sound : (p : ℕ) (ring' : Buffer ℕ) → Some p ≡ slice_get ring.items 0 → ring' ≡ buffer (drop 1 ring.items) ring.capacity → IsSound ring' lists (free - 1)
   take_sound p ring' h er =
       let t = taken_first (pool_pages ring lists) p h s.parted in
@@ -105,6 +108,7 @@ dirty_in_range ring lists lists' free page s el h =
     has_head [] n h = absurd cc
     has_head (x ∷ xs) n h = let k : n ≡ x = cc in rw (eq-eqb n x k) refl
 
+-- a list from its first number on
 front_is : (xs : List ℕ) (p : ℕ) → slice_get xs 0 ≡ Some p → xs ≡ p ∷ drop 1 xs
 front_is [] p h = absurd cc
 front_is (x ∷ xs) p h = let e : x ≡ p = cc in ap (λ y. y ∷ xs) e

@@ -5,7 +5,7 @@ use Rattle.index_lists.specs.NodeLists.{has}
 use Rattle.cl_types.specs.Bytes.{fresh_bytes}
 use Rattle.page_arena.specs.Arena.{page_at}
 
--- how many pages there are and may be in the ring, and those in it, clean and dirty; others are taken
+-- how many pages there are, how many the ring may have, and those that aren't taken, by their parts
 pub record PoolPages : Type 0 where
   pub pages : ℕ
   pub capacity : ℕ
@@ -41,7 +41,8 @@ AreZero arena pages = (page : ℕ) → has pages page ≡ true → page_at arena
 
 -- a page moved into the ring, if it has space: the first clean one, or else the first dirty one
 abbrev pub moved : PoolPages → PoolPages
-moved pool = if nat_lt (length pool.ring) pool.capacity then from_lists pool.clean pool.dirty else pool
+moved pool =
+    if nat_lt (length pool.ring) pool.capacity then from_lists pool.clean pool.dirty else pool
   where
     from_lists : List ℕ → List ℕ → PoolPages
     from_lists (page ∷ clean) dirty = record pool { ring = pool.ring ++ page ∷ []; clean = clean }

@@ -92,8 +92,8 @@ impl Pool {
         self.free
     }
 
-    /// Takes the first page of the ring. `None` comes exactly where no page is free, and then
-    /// nothing is counted.
+    /// Takes the first page of the ring, and counts it. `None` comes exactly where no page is
+    /// free, and then nothing is counted.
     pub fn take<L: Ledger>(&mut self, takes: &mut Steps<L>) -> Option<PageNo>
         requires { IsReady self.old }
         ensures page { option_map (λ page. page.0) result ≡ slice_get self.old.ring 0 }
@@ -120,8 +120,9 @@ impl Pool {
         self.free += 1;
     }
 
-    /// Moves one page into the ring where the ring has space and a clean or a dirty page stands, and
-    /// else none. A clean page goes before a dirty one, and a dirty one is zeroed.
+    /// Moves one page into the ring where the ring has space and a clean or a dirty page stands,
+    /// and else none. A clean page goes before a dirty one, and a dirty one is zeroed. The arena is
+    /// the pool's, with as many pages.
     pub fn refill(&mut self, arena: &mut PageArena)
         requires pages { length arena.old ≡ self.old.pages }
         requires zero { AreZero arena.old (self.old.ring ++ self.old.clean) }

@@ -42,7 +42,8 @@ impl Pages {
     /// Takes a page back.
     fn release(&mut self, page: PageNo)
         requires { IsTaken self.old.pool page.0 }
-        ensures { self.new.pool ≡ record self.old.pool { dirty = self.old.pool.dirty ++ page.0 ∷ [] } }
+        ensures { self.new.pool
+            ≡ record self.old.pool { dirty = self.old.pool.dirty ++ page.0 ∷ [] } }
     {
         self.pool.release(page);
     }

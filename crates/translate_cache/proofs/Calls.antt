@@ -28,6 +28,7 @@ module _ (c : Cached) (valid : IsValid c) (p : Place) where
   get_is None is = rw (lookup_entry-is p c.entries, is) refl
   get_is (Some x) is = rw (lookup_entry-is p c.entries, is, all_others x is) refl
 
+  -- what `forget` leaves
   pub forgotten_valid : IsValid (forgotten c p)
   forgotten_valid = record {
     some = valid.some;
@@ -38,6 +39,7 @@ module _ (c : Cached) (valid : IsValid c) (p : Place) where
   pub forgotten_gone : entry_of (forgotten c p) p ≡ None
   forgotten_gone = lookup-lacks p (forgotten c p).entries (lacks_removed p c.entries valid.distinct)
 
+  -- what `note` leaves
   pub noted_valid : (pte : Pte) → IsValid (noted c p pte)
   noted_valid pte = record {
     some = valid.some;
@@ -45,6 +47,7 @@ module _ (c : Cached) (valid : IsValid c) (p : Place) where
     distinct = apart-cons p pte (c.capacity - 1) c.entries valid.distinct;
   }
 
+  -- what `get` leaves is valid
   pub used_valid : IsValid (used c p)
   used_valid = step (entry_of c p)
     where
@@ -63,6 +66,7 @@ module _ (c : Cached) (valid : IsValid c) (p : Place) where
         | inr f ↦ rw f.1 (lookup-remove_other p q c.entries f.0)
       ])
 
+-- what is found by `get` is first then
 pub used_first : (c : Cached) (p : Place) → IfSome (entry_of c p) (IsFirst (used c p) p)
 used_first c p = step (entry_of c p)
   where
@@ -73,6 +77,7 @@ used_first c p = step (entry_of c p)
 pub forgotten_other : (c : Cached) (p q : Place) → q ≢ p → entry_of (forgotten c p) q ≡ entry_of c q
 forgotten_other c p q other = lookup-remove_other p q c.entries other
 
+-- what is found after a note
 noted_here : (c : Cached) (p : Place) (pte : Pte) → entry_of (noted c p pte) p ≡ Some pte
 noted_here c p pte = rw (is_place-self p) refl
 
@@ -88,12 +93,14 @@ if_some (Some x) P all = all x refl
 
 -- a note that is kept, or for want of memory is not
 module _ (c d : Cached) (p : Place) (pte : Pte) (either : (d ≡ noted c p pte) ⊎ (d ≡ c)) where
+  -- the cache is valid
   pub note_valid : IsValid c → IsValid d
   note_valid valid = elim either [
     | inl kept ↦ subst (λ (e : Cached). IsValid e) (sym kept) (noted_valid c valid p pte)
     | inr same ↦ subst (λ (e : Cached). IsValid e) (sym same) valid
   ]
 
+  -- the other pages have the entries that they had, or none
   pub note_others : (q : Place) → q ≢ p → IfSome (entry_of d q) (λ found. entry_of c q ≡ Some found)
   note_others q other = elim either [
     | inl kept ↦ if_some (entry_of d q) _ (λ x found. noted_other c p pte q other x (ap (λ e. entry_of e q) (sym kept) ∙ found))
@@ -101,6 +108,7 @@ module _ (c d : Cached) (p : Place) (pte : Pte) (either : (d ≡ noted c p pte) 
   ]
 
   module _ (known : IsSome (entry_of c p) → d ≡ noted c p pte) where
+    -- the entry is first, or the page has none
     pub note_first : IsFirst d p pte ⊎ (entry_of d p ≡ None)
     note_first = step (entry_of c p) refl
       where
@@ -111,6 +119,7 @@ module _ (c d : Cached) (p : Place) (pte : Pte) (either : (d ≡ noted c p pte) 
         step (Some x) is = inl (kept_first (known (rw is refl)))
         step None is = elim either [ inl kept ↦ inl (kept_first kept) | inr same ↦ inr (ap (λ e. entry_of e p) same ∙ is) ]
 
+    -- what is found is the entry
     pub note_here : IfSome (entry_of d p) (λ found. found ≡ pte)
     note_here = elim either [
       | inl kept ↦ kept_here kept

@@ -29,10 +29,12 @@ lookup_entry-is p (e ∷ es) = elim (split_place p e.0) [
 abbrev pub Lacks : Place → List (Place × Pte) → Type 0
 Lacks p es = AllByRecursion (λ k. is_place p k ≡ false) (keys_of es)
 
+-- nothing is found there then
 pub lookup-lacks : (p : Place) (es : List (Place × Pte)) → Lacks p es → lookup (is_place p) es ≡ None
 lookup-lacks p [] lacks = refl
 lookup-lacks p (e ∷ es) lacks = rw lacks.0 (lookup-lacks p es lacks.1)
 
+-- where nothing is found there is no entry
 pub lacks-lookup : (p : Place) (es : List (Place × Pte)) → lookup (is_place p) es ≡ None → Lacks p es
 lacks-lookup p [] none = tt
 lacks-lookup p (e ∷ es) none = elim (split_place p e.0) [
@@ -104,10 +106,12 @@ lookup-take q (suc n) (e ∷ es) x found = elim (split_place q e.0) [
   | inr f ↦ rw f.1 (lookup-take q n es x (rw f.1 at found))
 ]
 
+-- taking out what is not there leaves all
 pub remove-lacks : (p : Place) (es : List (Place × Pte)) → Lacks p es → remove_entry (is_place p) es ≡ es
 remove-lacks p [] lacks = refl
 remove-lacks p (e ∷ es) lacks = rw lacks.0 (ap (λ rest. e ∷ rest) (remove-lacks p es lacks.1))
 
+-- taking out what is there leaves one less
 pub length-remove : (p : Place) (es : List (Place × Pte)) (x : Pte) → lookup (is_place p) es ≡ Some x → length (remove_entry (is_place p) es) + 1 ≡ length es
 length-remove p [] x found = absurd cc
 length-remove p (e ∷ es) x found = elim (split_place p e.0) [

@@ -27,10 +27,11 @@ IsFirst cache place pte = slice_get cache.entries 0 ≡ Some (place, pte)
 abbrev pub forgotten : Cached → Place → Cached
 forgotten cache place = record cache { entries = remove_entry (is_place place) cache.entries }
 
--- the entry goes before those of the other pages, of which the last ones go where there is no room
+-- the entry goes before those of the other pages, as many of them as there is room for
 abbrev pub noted : Cached → Place → Pte → Cached
-noted cache place pte =
-    record cache { entries = (place, pte) ∷ take (cache.capacity - 1) (forgotten cache place).entries }
+noted cache place pte = record cache {
+  entries = (place, pte) ∷ take (cache.capacity - 1) (forgotten cache place).entries;
+}
 
 -- the page's entry goes before the others, where the cache has one
 abbrev pub used : Cached → Place → Cached

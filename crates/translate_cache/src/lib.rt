@@ -1,15 +1,16 @@
 //! A cache of the page table's entries, so that a page in use is found with no bucket read.
 //!
-//! A contract sees a `Cache` as the list of its entries, the latest used first, and the number that
-//! it may hold. Each call says what that list is afterwards, and what is then found at each page.
-//! Each leaves the cache valid: no page has two entries, and they are no more than there may be.
-//! `get`, `note` and `forget` can't fail. A new page that finds no memory isn't noted, and the cache
-//! is as it was.
+//! A contract sees a `Cache` as the list of its entries, the latest used first, and the number
+//! that it may hold. Each call says what that list is afterwards, and what is then found at each
+//! page. Each leaves the cache valid: no page has two entries, and they are no more than there may
+//! be.
+//! `get`, `note` and `forget` can't fail. A new page that finds no memory isn't noted, and the
+//! cache is as it was.
 //!
 //! `None` says that the cache has no entry, and nothing of the page. That the entries are those of
-//! the page table is its caller's to keep. That each call takes a number of steps that doesn't grow
-//! with the entries is so by the list and the table that the entries are kept in, `lru`; no clause
-//! says it.
+//! the page table is its caller's to keep. The entries lie in a hashed table and a linked list, of
+//! the crate `lru`, so that no call takes longer the more there are. No clause says so, nor that a
+//! new page is noted where there is memory.
 #![tactic(auto)]
 
 mod cache;
