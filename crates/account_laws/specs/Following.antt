@@ -1,0 +1,62 @@
+-- What each line leaves of a client, by the client's machine alone.
+use Rattle.std.specs.Prelude.{ℕ, ◌+◌, ◌≡◌, Bool, true, false, List, Option, Some, None, if◌then◌else◌}
+use Rattle.cl_types.specs.declared.call.Call.{Call}
+use Rattle.cl_types.specs.declared.config.Config.{Config}
+use Rattle.cl_types.specs.declared.frame.IssueFault.{IssueFault}
+use Rattle.cl_types.specs.declared.line.Entry.{Entry}
+use Rattle.cl_types.specs.declared.numbers.ClientNo.{ClientNo}
+use Rattle.cl_types.specs.declared.reply.Reply.{Reply}
+use Rattle.cl_types.specs.declared.schedule.Event.{Event}
+use Rattle.cl_types.specs.declared.schedule.Event.TheVariants as event
+use Rattle.flat_model.specs.Account.{Account, Frame, Load, Asks, Answers, nothing_yet, now, frame_at, is_live, taken_in_order}
+use Rattle.flat_model.specs.Client.{ClientState, Sending, same_client, poll, after_issue, after_poll, after_reply, flight_under, handed_out}
+use Rattle.flat_model.specs.Clients.{call_of, client_at}
+use Rattle.flat_model.specs.Events.{account_from, next_account}
+use Rattle.flat_model.specs.Issue.{issue_fault}
+use Rattle.account_laws.specs.ClientLines.{Told, Fresh}
+
+-- a call that was judged: taken where there is no fault
+abbrev pub after_judged : Option IssueFault → Call → ClientState → ClientState
+after_judged (Some fault) k s = s
+after_judged None k s = after_issue k s
+
+-- a reply to the part in flight, where there is one
+abbrev pub after_heard : Option Sending → Reply → ClientState → ClientState
+after_heard None reply s = s
+after_heard (Some f) reply s = handed_out (after_reply f.part reply s)
+
+-- a live frame: a reply to this client is heard
+abbrev pub after_load : Load → ClientState → ClientState
+after_load (Asks items) s = s
+after_load (Answers head reply if_taken) s = if same_client s.client head.client then after_heard (flight_under head.orig s) reply s else s
+
+abbrev pub after_delivered : Bool → Frame → ClientState → ClientState
+after_delivered true frame s = after_load frame.load s
+after_delivered false frame s = s
+
+abbrev pub after_frame : ℕ → Option Frame → ClientState → ClientState
+after_frame t None s = s
+after_frame t (Some frame) s = after_delivered (is_live t frame) frame s
+
+-- the client after an event: its own calls and polls, and the live replies to it, are steps of the machine; all else leaves it
+abbrev pub after_event : Account → ℕ → Event → ClientState → ClientState
+after_event a l (event.Call client text) s =
+    if same_client s.client client then after_judged (issue_fault s (call_of text)) (call_of text) s else s
+after_event a l (event.Poll client) s =
+    if same_client s.client client then handed_out (after_poll (now a l) (poll s (now a l)) s) else s
+after_event a l (event.Deliver frame) s = after_frame (now a l) (frame_at a frame) s
+after_event a l event.DeliverNext s = after_frame (now a l) (frame_at a (taken_in_order a + 1)) s
+after_event a l other s = s
+
+-- in the account of every list of events, each line leaves each client as its machine does
+abbrev pub ClientsFollow : Type 0
+ClientsFollow =
+    (keep : List Entry → List Entry) (config : Config) (events : List (ℕ × Event)) (l : ℕ) (event : Event) (c : ClientNo)
+    → let a : Account = account_from keep config nothing_yet events in
+    client_at config (next_account keep config a (l, event)) c ≡ after_event a l event (client_at config a c)
+
+-- in every account each part that left flight tells what came of it, and of calls that were not issued nothing is said
+abbrev pub AccountsTell : Type 0
+AccountsTell =
+    (keep : List Entry → List Entry) (config : Config) (events : List (ℕ × Event)) (c : ClientNo)
+    → Told (account_from keep config nothing_yet events) c × Fresh (account_from keep config nothing_yet events) c

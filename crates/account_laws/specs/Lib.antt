@@ -1,0 +1,4 @@
+pub mod ClientLines
+pub mod Readiness
+pub mod Flights
+pub mod Following

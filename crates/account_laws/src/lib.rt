@@ -1,0 +1,4 @@
+//! Laws of the account of a schedule, each the contract of a function that does nothing.
+#![tactic(auto)]
+
+pub mod client_laws;
