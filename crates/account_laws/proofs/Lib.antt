@@ -11,3 +11,5 @@ pub mod Premises
 pub mod Fences
 pub mod ReadyCalls
 pub mod Following
+pub mod Moments
+pub mod TimesKept

@@ -3,6 +3,8 @@ use Rattle.std.proofs.Common.{◌≡◌, ℕ, zero, suc, ◌+◌, List, [], ◌�
 use Rattle.std.specs.Prelude.{filter_map, flat_map, find, filter, option_map, option_and_then, slice_get, unwrap_or}
 use Rattle.std.specs.List.{cons_option, enumerate_from}
 use Rattle.std.specs.List.{AllByRecursion as Each}
+use Rattle.cl_types.specs.declared.line.Entry.{Entry}
+use Rattle.flat_model.specs.Account.{with_entry, with_entries, is_before}
 use Rattle.flat_model.specs.Clients.{first_of}
 use Rattle.flat_model.specs.Client.{first_some}
 
@@ -120,3 +122,15 @@ and_then_some f (Some x) y e = (x, refl, e)
 pub none_read : {X Y : Type 0} (f : X → Option Y) (xs : List X) → Each (λ (x : X). f x ≡ None) xs → filter_map f xs ≡ []
 none_read f [] none = refl
 none_read f (x ∷ xs) none = ap (λ o. cons_option o (filter_map f xs)) none.0 ∙ none_read f xs none.1
+
+-- ---- entries
+pub each_with_entry : (P : Entry → Type 0) (e : Entry) (h : List Entry) → P e → Each P h → Each P (with_entry e h)
+each_with_entry P e [] p h = (p, tt)
+each_with_entry P e (x ∷ xs) p h = go (is_before e.line e.position x) (each_with_entry P e xs p h.1) where
+  go : (b : Bool) → Each P (with_entry e xs) → Each P (elim b [ true ↦ x ∷ with_entry e xs | false ↦ e ∷ x ∷ xs ])
+  go true k = (h.0, k)
+  go false k = (p, h)
+
+pub each_with_entries : (P : Entry → Type 0) (es h : List Entry) → Each P es → Each P h → Each P (with_entries es h)
+each_with_entries P [] h k m = m
+each_with_entries P (e ∷ es) h k m = each_with_entries P es (with_entry e h) k.1 (each_with_entry P e h k.0 m)

@@ -2,3 +2,5 @@ pub mod ClientLines
 pub mod Readiness
 pub mod Flights
 pub mod Following
+pub mod Schedules
+pub mod Times

@@ -2,3 +2,4 @@
 #![tactic(auto)]
 
 pub mod client_laws;
+pub mod laws;

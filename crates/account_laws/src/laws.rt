@@ -1,0 +1,10 @@
+//! Laws of the account of every schedule.
+
+ghost use Rattle.account_laws.specs.Times.{LawOfTimes};
+
+/// A frame that carries a part is sent at an age of the part at which it may still be sent again, and is live only
+/// before the part may be given up. None is live once its part was given up, and none is live as long as the span
+/// after an entry of its part.
+pub fn law_of_times()
+    ensures { LawOfTimes }
+{}
