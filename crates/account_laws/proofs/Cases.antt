@@ -41,6 +41,11 @@ IsQuiet (did.Busy frame client part oldest at) = ⊥
 IsQuiet (did.Took frame client part) = ⊥
 IsQuiet other = Unit {0}
 
+-- the event shows no memory
+abbrev pub IsNoPeek : Event → Type 0
+IsNoPeek (event.Peek pid addr len) = ⊥
+IsNoPeek other = Unit {0}
+
 -- the frame of this number is live, and carries this
 pub record IsGiven (a : Account) (l k : ℕ) (frame : Frame) (load : Load) : Type 0 where
   pub is_frame : frame_at a k ≡ Some frame
@@ -49,7 +54,7 @@ pub record IsGiven (a : Account) (l k : ℕ) (frame : Frame) (load : Load) : Typ
 
 -- what is to be shown of the effects of all events on line l
 pub record Cases (keep : List Entry → List Entry) (config : Config) (a : Account) (l : ℕ) (P : Event → Effect → Type 0) : Type 0 where
-  pub quiet : (event : Event) (d : Did) → IsQuiet d → P event (says d)
+  pub quiet : (event : Event) (d : Did) → IsNoPeek event → IsQuiet d → P event (says d)
   pub peeks : (pid : ℕ) (addr : Addr) (n : ℕ) → P (event.Peek pid addr n) (on_peek (memory_at config a.history l 0) pid addr n)
   pub issues : (c : ClientNo) (text : CallText) → issue_fault (client_at config a c) (call_of text) ≡ None
       → P (event.Call c text) (on_judged (client_at config a c) None)
@@ -67,6 +72,10 @@ pub record Cases (keep : List Entry → List Entry) (config : Config) (a : Accou
       → is_delivery event ≡ true → IsGiven a l k frame (Answers head reply if_taken) → FlightOf a head.client f → f.orig ≡ head.orig
       → P event (on_flight (client_at config a head.client) k head reply if_taken (Some f))
 
+pub delivery_no_peek : (e : Event) → is_delivery e ≡ true → IsNoPeek e
+delivery_no_peek (event.Peek pid addr len) h = let z : false ≡ true = h in grind arith
+delivery_no_peek other h = tt
+
 -- a peek brings a quiet text alone
 pub peek_is_quiet : (P : Effect → Type 0) → ((d : Did) → IsQuiet d → P (says d)) → (s : FlatState) (pid : ℕ) (addr : Addr) (n : ℕ) → P (on_peek s pid addr n)
 peek_is_quiet P quiet s pid addr n = go (page_at s pid (page_of addr)) where
@@ -79,7 +88,7 @@ module _ (keep : List Entry → List Entry) (config : Config) (a : Account) (l :
   call_case c text = go (issue_fault (client_at config a c) (call_of text)) refl where
     go : (o : Option IssueFault) → issue_fault (client_at config a c) (call_of text) ≡ o → P (event.Call c text) (on_judged (client_at config a c) o)
     go None is = cases.issues c text is
-    go (Some fault) is = cases.quiet (event.Call c text) (did.NotIssued fault) tt
+    go (Some fault) is = cases.quiet (event.Call c text) (did.NotIssued fault) tt tt
 
   -- ---- the four rules of a poll
   abbrev Of : ClientNo → Polled → Type 0
@@ -115,12 +124,12 @@ module _ (keep : List Entry → List Entry) (config : Config) (a : Account) (l :
           ),
         ),
       )
-      (cases.quiet (event.Poll c) did.Idle tt)
+      (cases.quiet (event.Poll c) did.Idle tt tt)
 
   -- ---- a delivery
   reply_case : (e : Event) (k : ℕ) (frame : Frame) (head : Head) (reply : Reply) (if_taken : List Entry) → is_delivery e ≡ true → IsGiven a l k frame (Answers head reply if_taken)
       → (o : Option Sending) → flight_under head.orig (client_at config a head.client) ≡ o → P e (on_flight (client_at config a head.client) k head reply if_taken o)
-  reply_case e k frame head reply if_taken delivers given None is = cases.quiet e (did.Late k head.orig) tt
+  reply_case e k frame head reply if_taken delivers given None is = cases.quiet e (did.Late k head.orig) (delivery_no_peek e delivers) tt
   reply_case e k frame head reply if_taken delivers given (Some f) is =
       let h = find_some (FlightOf a head.client) (λ (f : Sending). f.orig == head.orig) (flights (client_at config a head.client)) f (flights_are config a head.client) is in
       cases.takes e k frame head reply if_taken f delivers given h.0 (eqb_is f.orig head.orig h.1)
@@ -131,41 +140,41 @@ module _ (keep : List Entry → List Entry) (config : Config) (a : Account) (l :
       reply_case e k frame head reply if_taken delivers given (flight_under head.orig (client_at config a head.client)) refl
 
   live_case : (e : Event) (k : ℕ) (frame : Frame) → is_delivery e ≡ true → frame_at a k ≡ Some frame → (b : Bool) → is_live (now a l) frame ≡ b → P e (if_live keep config a l k frame b)
-  live_case e k frame delivers at_number false is = cases.quiet e (did.Expired k frame.moment) tt
+  live_case e k frame delivers at_number false is = cases.quiet e (did.Expired k frame.moment) (delivery_no_peek e delivers) tt
   live_case e k frame delivers at_number true is = handed_case e k frame frame.load delivers (record { is_frame = at_number; live = is; carries = refl })
 
   delivery_case : (e : Event) (k : ℕ) → is_delivery e ≡ true → P e (on_delivery keep config a l k)
   delivery_case e k delivers = go (frame_at a k) refl where
     go : (o : Option Frame) → frame_at a k ≡ o → P e (on_frame keep config a l k o)
-    go None is = cases.quiet e (did.Absent k) tt
+    go None is = cases.quiet e (did.Absent k) (delivery_no_peek e delivers) tt
     go (Some frame) is = live_case e k frame delivers is (is_live (now a l) frame) refl
 
-  next_case : (e : Event) (go : ℕ → Effect) → ((k : ℕ) → P e (go k)) → P e (on_next keep config a go)
-  next_case e go each = by (frame_at a (taken_in_order a + 1)) where
+  next_case : (e : Event) (go : ℕ → Effect) → IsNoPeek e → ((k : ℕ) → P e (go k)) → P e (on_next keep config a go)
+  next_case e go no_peek each = by (frame_at a (taken_in_order a + 1)) where
     by : (o : Option Frame) → P e (if_there keep config go (taken_in_order a + 1) o)
-    by None = cases.quiet e did.NoFrame tt
+    by None = cases.quiet e did.NoFrame no_peek tt
     by (Some frame) = each (taken_in_order a + 1)
 
   -- ---- what only shows
   show_case : (k : ℕ) → P (event.Show k) (shown k (frame_at a k))
   show_case k = go (frame_at a k) where
     go : (o : Option Frame) → P (event.Show k) (shown k o)
-    go None = cases.quiet (event.Show k) (did.ShownAbsent k) tt
-    go (Some frame) = cases.quiet (event.Show k) (did.Shown k frame.bytes) tt
+    go None = cases.quiet (event.Show k) (did.ShownAbsent k) tt tt
+    go (Some frame) = cases.quiet (event.Show k) (did.Shown k frame.bytes) tt tt
 
-  garbage_case : (e : Event) (o : Option BadFrame) → P e (on_garbage o)
-  garbage_case e (Some fault) = cases.quiet e (did.Bad fault) tt
-  garbage_case e None = cases.quiet e did.Idle tt
+  garbage_case : (e : Event) → IsNoPeek e → (o : Option BadFrame) → P e (on_garbage o)
+  garbage_case e no_peek (Some fault) = cases.quiet e (did.Bad fault) no_peek tt
+  garbage_case e no_peek None = cases.quiet e did.Idle no_peek tt
 
   pub effect_by : (e : Event) → P e (effect keep config a l e)
   effect_by (event.Call client text) = call_case client text
   effect_by (event.Poll client) = poll_case client
   effect_by (event.Deliver frame) = delivery_case (event.Deliver frame) frame refl
-  effect_by event.DeliverNext = next_case event.DeliverNext (on_delivery keep config a l) (λ k. delivery_case event.DeliverNext k refl)
-  effect_by event.Drop = next_case event.Drop (λ k. says (did.Dropped k)) (λ k. cases.quiet event.Drop (did.Dropped k) tt)
-  effect_by (event.Tick by) = cases.quiet (event.Tick by) (did.Now (now a l + by)) tt
+  effect_by event.DeliverNext = next_case event.DeliverNext (on_delivery keep config a l) tt (λ k. delivery_case event.DeliverNext k refl)
+  effect_by event.Drop = next_case event.Drop (λ k. says (did.Dropped k)) tt (λ k. cases.quiet event.Drop (did.Dropped k) tt tt)
+  effect_by (event.Tick by) = cases.quiet (event.Tick by) (did.Now (now a l + by)) tt tt
   effect_by (event.Peek pid addr len) = cases.peeks pid addr len
   effect_by (event.Show frame) = show_case frame
-  effect_by event.Stat = cases.quiet event.Stat (did.Stat _ _) tt
-  effect_by (event.GarbageNode bytes) = garbage_case (event.GarbageNode bytes) (request_fault (expanded bytes))
-  effect_by (event.GarbageClient client bytes) = garbage_case (event.GarbageClient client bytes) (reply_fault (expanded bytes))
+  effect_by event.Stat = cases.quiet event.Stat (did.Stat _ _) tt tt
+  effect_by (event.GarbageNode bytes) = garbage_case (event.GarbageNode bytes) tt (request_fault (expanded bytes))
+  effect_by (event.GarbageClient client bytes) = garbage_case (event.GarbageClient client bytes) tt (reply_fault (expanded bytes))

@@ -241,7 +241,7 @@ FencesKept c a l event e = FencesLast (issued (extended a l event e) c) (runs (e
 
 fences_cases : (keep : List Entry → List Entry) (config : Config) (a : Account) (l : ℕ) (c : ClientNo) → Followed a c → Cases keep config a l (FencesKept c a l)
 fences_cases keep config a l c h = record {
-  quiet = λ event d quiet. calm event (says d) (quiet_ends_none d quiet, tt);
+  quiet = λ event d no_peek quiet. calm event (says d) (quiet_ends_none d quiet, tt);
   peeks = λ pid addr n. peek_is_quiet (FencesKept c a l (event.Peek pid addr n)) (λ d quiet. calm (event.Peek pid addr n) (says d) (quiet_ends_none d quiet, tt)) (memory_at config a.history l 0) pid addr n;
   issues = λ d text none. calm (event.Call d text) (on_judged (client_at config a d) None) (refl, tt);
   gives_up = λ d f of old. calm (event.Poll d) (on_polled a l (client_at config a d) (GivesUp f)) (refl, tt);

@@ -1,17 +1,20 @@
 -- What the items of a frame bring.
-use Rattle.std.proofs.Common.{ℕ, ◌+◌, List, [], ◌∷◌}
+use Rattle.std.proofs.Common.{◌≡◌, ℕ, ◌+◌, List, [], ◌∷◌, refl, Bool, true, false, Option, Some, None, arith}
+use Rattle.std.specs.Prelude.{option_map}
 use Rattle.std.specs.List.{AllByRecursion as Each}
 use Rattle.cl_types.specs.declared.numbers.ClientNo.{ClientNo}
 use Rattle.cl_types.specs.declared.config.Config.{Config}
 use Rattle.cl_types.specs.declared.frame.How.{How}
+use Rattle.cl_types.specs.Requests.{is_changing}
 use Rattle.cl_types.specs.declared.reply.Part.{Part}
+use Rattle.cl_types.specs.declared.reply.Reply.{Reply}
 use Rattle.cl_types.specs.declared.line.Did.{Did}
 use Rattle.cl_types.specs.declared.line.Did.TheVariants as did
 use Rattle.cl_types.specs.declared.line.Entry.{Entry}
 use Rattle.flat_model.specs.State.{FlatState}
-use Rattle.flat_model.specs.Account.{Account, Carried, joined_by, memory_at}
-use Rattle.flat_model.specs.Handling.{Handling, Repeats, RefusesForNow, Executes, Looks}
-use Rattle.flat_model.specs.Events.{on_item, on_items, handled}
+use Rattle.flat_model.specs.Account.{Account, Carried, joined_by, memory_at, now}
+use Rattle.flat_model.specs.Handling.{Handling, Repeats, RefusesForNow, Executes, Looks, handling, if_young, is_young, oldest_of}
+use Rattle.flat_model.specs.Events.{on_item, on_items, handled, item_handling, record_of}
 use Rattle.account_laws.proofs.Lists.{each_append}
 
 -- ---- texts of a delivery at the node
@@ -31,3 +34,17 @@ pub items_texts : (P : Did → Type 0) → OfHandling P → (keep : List Entry �
 items_texts P of keep config l k [] b q = tt
 items_texts P of keep config l k (i ∷ is) b q =
     each_append P (on_item keep config b l k q i).texts _ (handled_texts P of (memory_at config b.history l q) b l k q i _) (items_texts P of keep config l k is (joined_by b (on_item keep config b l k q i)) (q + 1))
+
+-- ---- how an item is handled
+-- only a reading item is looked up
+pub looks_read : (records : List Entry) (retry : ℕ) (b : Account) (l : ℕ) (i : Carried) → item_handling records retry b l i ≡ Looks → is_changing i.item.request ≡ false
+looks_read records retry b l i = go (is_changing i.item.request) (option_map (λ e. e.reply) (record_of records i.item.head.client i.part)) (option_map (λ e. now b e.line) (oldest_of retry records)) where
+  young : (y : Bool) (oldest : ℕ) → if_young y oldest ≡ Looks → true ≡ false
+  young true oldest h = grind arith
+  young false oldest h = grind arith
+
+  go : (changing : Bool) (recorded : Option Reply) (oldest : Option ℕ) → handling changing recorded (now b l) oldest ≡ Looks → changing ≡ false
+  go false recorded oldest h = refl
+  go true (Some reply) oldest h = grind arith
+  go true None None h = grind arith
+  go true None (Some oldest) h = young (is_young (now b l) oldest) oldest h

@@ -13,3 +13,11 @@ pub mod ReadyCalls
 pub mod Following
 pub mod Moments
 pub mod TimesKept
+pub mod Reading
+pub mod Places
+pub mod Insert
+pub mod Replies
+pub mod Ran
+pub mod Joined
+pub mod CutRanges
+pub mod RunKept

@@ -160,7 +160,7 @@ fresh_kept a l event e c told fresh modest = record {
       ∙ or_false (list_any (ends_fence c n) a.lines) (ends_fence c n (line_of a l event e)) (fresh.unended n low) (modest.fences n low);
 }
 
-none_any : {X : Type 0} (test : X → Bool) (xs : List X) → Each (λ (x : X). test x ≡ false) xs → list_any test xs ≡ false
+pub none_any : {X : Type 0} (test : X → Bool) (xs : List X) → Each (λ (x : X). test x ≡ false) xs → list_any test xs ≡ false
 none_any test [] h = refl
 none_any test (x ∷ xs) h = go (test x) h.0 (none_any test xs h.1) where
   go : (b : Bool) → b ≡ false → list_any test xs ≡ false → (b || list_any test xs) ≡ false
@@ -266,7 +266,7 @@ fence_line config a l event c d k h of = record {
 -- ---- the induction
 premises_cases : (keep : List Entry → List Entry) (config : Config) (a : Account) (l : ℕ) (c : ClientNo) → Premises a c → Cases keep config a l (λ event e. Premises (extended a l event e) c)
 premises_cases keep config a l c h = record {
-  quiet = λ event d quiet. quiet_line a l event c h d quiet;
+  quiet = λ event d no_peek quiet. quiet_line a l event c h d quiet;
   peeks = λ pid addr n. peek_is_quiet (λ e. Premises (extended a l (event.Peek pid addr n) e) c) (λ d quiet. quiet_line a l (event.Peek pid addr n) c h d quiet) (memory_at config a.history l 0) pid addr n;
   issues = λ d text none. silent_line a l (event.Call d text) (on_judged (client_at config a d) None) c h (λ p. (record { no_end = refl; no_first = refl; no_moment = refl }, tt)) (refl, tt);
   gives_up = λ d f of old. gave_up_line config a l (event.Poll d) c d f h of;

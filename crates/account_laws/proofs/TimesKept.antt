@@ -238,7 +238,7 @@ items_fit keep config a l event k f items t given =
 
 times_cases : (keep : List Entry → List Entry) (config : Config) (a : Account) (l : ℕ) → Times a l → Cases keep config a l (Fit a l)
 times_cases keep config a l t = record {
-  quiet = λ event d quiet. quiet_fits a l event d quiet;
+  quiet = λ event d no_peek quiet. quiet_fits a l event d quiet;
   peeks = λ pid addr n. peek_is_quiet (Fit a l (event.Peek pid addr n)) (λ d quiet. quiet_fits a l (event.Peek pid addr n) d quiet) (memory_at config a.history l 0) pid addr n;
   issues = λ c text none. record { young = tt; old = (tt, tt); looked = tt; entered = tt };
   gives_up = λ c f of old. gives_up_fits config a l (event.Poll c) c f of old;

@@ -4,3 +4,4 @@ pub mod Flights
 pub mod Following
 pub mod Schedules
 pub mod Times
+pub mod Runs

@@ -1,5 +1,6 @@
 //! Laws of the account of every schedule.
 
+ghost use Rattle.account_laws.specs.Runs.{LawOfRuns};
 ghost use Rattle.account_laws.specs.Times.{LawOfTimes};
 
 /// A frame that carries a part is sent at an age of the part at which it may still be sent again, and is live only
@@ -7,4 +8,10 @@ ghost use Rattle.account_laws.specs.Times.{LawOfTimes};
 /// after an entry of its part.
 pub fn law_of_times()
     ensures { LawOfTimes }
+{}
+
+/// The history of every account is a run of the flat machine from its opening, and each peek shows the memory of that
+/// run on its line.
+pub fn law_of_runs()
+    ensures { LawOfRuns }
 {}

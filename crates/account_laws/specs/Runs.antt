@@ -1,0 +1,16 @@
+-- The law of runs: the history is a run of the flat machine, and each peek shows the memory of that run.
+use Rattle.std.specs.Prelude.{ℕ, List}
+use Rattle.cl_types.specs.declared.config.Config.{Config}
+use Rattle.cl_types.specs.declared.schedule.Event.{Event}
+use Rattle.flat_model.specs.Account.{Account}
+use Rattle.flat_model.specs.Events.{account}
+use Rattle.flat_model.specs.Properties.{Peeks}
+use Rattle.flat_model.specs.Run.{IsRun}
+use Rattle.account_laws.specs.Schedules.{IsRisingFrom, AreTyped}
+
+pub record RunsAndShows (config : Config) (a : Account) : Type 0 where
+  pub run : IsRun config.node a.history
+  pub peeks : Peeks config a
+
+abbrev pub LawOfRuns : Type 0
+LawOfRuns = (config : Config) (events : List (ℕ × Event)) → IsRisingFrom 0 events → AreTyped events → RunsAndShows config (account config events)
