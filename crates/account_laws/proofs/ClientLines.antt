@@ -45,7 +45,7 @@ issued_extended a l event e c h =
     filter_map-append (λ (line : Line). issued_on c line.event line.texts) a.lines (line_of a l event e ∷ [])
     ∙ ap (λ z. issued a c ++ cons_option z []) h ∙ append-nil (issued a c)
 
-sendings_extended : (a : Account) (l : ℕ) (event : Event) (e : Effect) (c : ClientNo) → sendings (extended a l event e) c ≡ sendings a c + count_by (is_sending c) e.texts
+pub sendings_extended : (a : Account) (l : ℕ) (event : Event) (e : Effect) (c : ClientNo) → sendings (extended a l event e) c ≡ sendings a c + count_by (is_sending c) e.texts
 sendings_extended a l event e c =
     ap (count_by (is_sending c)) (flat_map-append (λ (line : Line). line.texts) a.lines (line_of a l event e ∷ []) ∙ ap (λ z. flat_map (λ (line : Line). line.texts) a.lines ++ z) (append-nil e.texts))
     ∙ sum_by-append (λ d. cond (is_sending c d) 1 0) (flat_map (λ (line : Line). line.texts) a.lines) e.texts

@@ -265,7 +265,10 @@ followed_from : (keep : List Entry → List Entry) (config : Config) (events : L
 followed_from keep config [] a c h = h
 followed_from keep config (e ∷ es) a c h = followed_from keep config es (next_account keep config a e) c (followed_next keep config a e c h)
 
-pub followed : (keep : List Entry → List Entry) (config : Config) (events : List (ℕ × Event)) (c : ClientNo) → Followed (account_from keep config nothing_yet events) c
-followed keep config events c = followed_from keep config events nothing_yet c (record { premises = premises_nothing c; fences = λ f x at_place fence over m less. absurd (nowhere f x at_place) }) where
+pub followed_nothing : (c : ClientNo) → Followed nothing_yet c
+followed_nothing c = record { premises = premises_nothing c; fences = λ f x at_place fence over m less. absurd (nowhere f x at_place) } where
   nowhere : (f : ℕ) (x : Call) → slice_get [] f ≡ Some x → ⊥
   nowhere f x e = grind arith
+
+pub followed : (keep : List Entry → List Entry) (config : Config) (events : List (ℕ × Event)) (c : ClientNo) → Followed (account_from keep config nothing_yet events) c
+followed keep config events c = followed_from keep config events nothing_yet c (followed_nothing c)

@@ -1,5 +1,5 @@
 -- What the items of a frame bring.
-use Rattle.std.proofs.Common.{◌≡◌, ℕ, ◌+◌, List, [], ◌∷◌, refl, Bool, true, false, Option, Some, None, arith}
+use Rattle.std.proofs.Common.{◌≡◌, ℕ, ◌+◌, List, [], ◌∷◌, refl, sym, ◌∙◌, subst, Bool, true, false, Option, Some, None, arith}
 use Rattle.std.specs.Prelude.{option_map}
 use Rattle.std.specs.List.{AllByRecursion as Each}
 use Rattle.cl_types.specs.declared.numbers.ClientNo.{ClientNo}
@@ -36,15 +36,30 @@ items_texts P of keep config l k (i ∷ is) b q =
     each_append P (on_item keep config b l k q i).texts _ (handled_texts P of (memory_at config b.history l q) b l k q i _) (items_texts P of keep config l k is (joined_by b (on_item keep config b l k q i)) (q + 1))
 
 -- ---- how an item is handled
--- only a reading item is looked up
-pub looks_read : (records : List Entry) (retry : ℕ) (b : Account) (l : ℕ) (i : Carried) → item_handling records retry b l i ≡ Looks → is_changing i.item.request ≡ false
-looks_read records retry b l i = go (is_changing i.item.request) (option_map (λ e. e.reply) (record_of records i.item.head.client i.part)) (option_map (λ e. now b e.line) (oldest_of retry records)) where
-  young : (y : Bool) (oldest : ℕ) → if_young y oldest ≡ Looks → true ≡ false
-  young true oldest h = grind arith
-  young false oldest h = grind arith
+-- What a handling says of the item and the records: whether the item changes, whether its part is recorded, and where
+-- it is executed, that the oldest of as many records as are kept isn't young.
+abbrev pub Tells : (records : List Entry) → (retry : ℕ) → Account → ℕ → Carried → Handling → Type 0
+Tells records retry b l i (Repeats reply) =
+    (is_changing i.item.request ≡ true) × (e : Entry) × (record_of records i.item.head.client i.part ≡ Some e) × (e.reply ≡ reply)
+Tells records retry b l i (RefusesForNow oldest) = is_changing i.item.request ≡ true
+Tells records retry b l i Executes =
+    (is_changing i.item.request ≡ true) × (record_of records i.item.head.client i.part ≡ None)
+    × ((e : Entry) → oldest_of retry records ≡ Some e → is_young (now b l) (now b e.line) ≡ false)
+Tells records retry b l i Looks = is_changing i.item.request ≡ false
 
-  go : (changing : Bool) (recorded : Option Reply) (oldest : Option ℕ) → handling changing recorded (now b l) oldest ≡ Looks → changing ≡ false
-  go false recorded oldest h = refl
-  go true (Some reply) oldest h = grind arith
-  go true None None h = grind arith
-  go true None (Some oldest) h = young (is_young (now b l) oldest) oldest h
+pub handling_tells : (records : List Entry) (retry : ℕ) (b : Account) (l : ℕ) (i : Carried) → Tells records retry b l i (item_handling records retry b l i)
+handling_tells records retry b l i = go (is_changing i.item.request) refl (record_of records i.item.head.client i.part) refl (oldest_of retry records) refl where
+  none_some : (e : Entry) → ◌≡◌ {A = Option Entry} None (Some e) → ⊥
+  none_some e h = grind arith
+
+  if_old : is_changing i.item.request ≡ true → record_of records i.item.head.client i.part ≡ None → (e : Entry) → oldest_of retry records ≡ Some e
+      → (y : Bool) → is_young (now b l) (now b e.line) ≡ y → Tells records retry b l i (if_young y (now b e.line))
+  if_old changing new e oldest true young = changing
+  if_old changing new e oldest false young = (changing, new, λ x is. let same : Some e ≡ Some x = sym oldest ∙ is in let it : e ≡ x = cc in subst (λ (z : Entry). is_young (now b l) (now b z.line) ≡ false) it young)
+
+  go : (c : Bool) → is_changing i.item.request ≡ c → (o : Option Entry) → record_of records i.item.head.client i.part ≡ o → (x : Option Entry) → oldest_of retry records ≡ x
+      → Tells records retry b l i (handling c (option_map (λ e. e.reply) o) (now b l) (option_map (λ e. now b e.line) x))
+  go false changing o recorded x oldest = changing
+  go true changing (Some e) recorded x oldest = (changing, e, recorded, refl)
+  go true changing None new None oldest = (changing, new, λ e is. absurd (none_some e (sym oldest ∙ is)))
+  go true changing None new (Some e) oldest = if_old changing new e oldest (is_young (now b l) (now b e.line)) refl

@@ -21,3 +21,7 @@ pub mod Ran
 pub mod Joined
 pub mod CutRanges
 pub mod RunKept
+pub mod PartsOnce
+pub mod Parts
+pub mod Induction
+pub mod OnceKept

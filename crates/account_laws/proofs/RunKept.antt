@@ -34,8 +34,9 @@ use Rattle.account_laws.proofs.Ran.{InRange, IssuesGood, LookOf, Ran}
 use Rattle.account_laws.proofs.Joined.{Grown, all_taken, executed, ran_joined}
 use Rattle.account_laws.proofs.CutRanges.{cut_in_range}
 use Rattle.account_laws.proofs.Cases.{IsQuiet, IsNoPeek, IsGiven, Cases, delivery_no_peek, peek_is_quiet, effect_by}
-use Rattle.account_laws.proofs.Items.{items_texts, looks_read}
-use Rattle.account_laws.proofs.TimesKept.{frame_at_each, past}
+use Rattle.account_laws.proofs.Items.{items_texts, Tells, handling_tells}
+use Rattle.account_laws.proofs.TimesKept.{frame_at_each}
+use Rattle.account_laws.proofs.Induction.{past, of_account}
 use Rattle.account_laws.proofs.Premises.{cond_none, none_any}
 
 -- ---- effects
@@ -154,22 +155,23 @@ sends_run config a l c o r request =
     none false = refl
 
 -- ---- the items of a frame
-handled_runs : (config : Config) (b : Account) (l k q : ℕ) (i : Carried) → Ran config b l q → InRange i.item.request → (h : Handling) → (h ≡ Looks → is_changing i.item.request ≡ false)
+handled_runs : (config : Config) (b : Account) (l k q : ℕ) (i : Carried) → Ran config b l q → InRange i.item.request → (records : List Entry) (retry : ℕ) (h : Handling) → Tells records retry b l i h
     → Ran config (joined_by b (handled (memory_at config b.history l q) b l k q i h)) l (q + 1)
-handled_runs config b l k q i r g (Repeats reply) looks =
+handled_runs config b l k q i r g records retry (Repeats reply) tells =
     ran_joined config b l q (q + 1) (handled (memory_at config b.history l q) b l k q i (Repeats reply)) r (same_grown config b l q (q + 1) r (λ x. before_next l q x)) (λ x. before_next l q x) (tt, tt) (tt, tt)
-handled_runs config b l k q i r g (RefusesForNow oldest) looks =
+handled_runs config b l k q i r g records retry (RefusesForNow oldest) tells =
     ran_joined config b l q (q + 1) (handled (memory_at config b.history l q) b l k q i (RefusesForNow oldest)) r (same_grown config b l q (q + 1) r (λ x. before_next l q x)) (λ x. before_next l q x) tt tt
-handled_runs config b l k q i r g Executes looks =
+handled_runs config b l k q i r g records retry Executes tells =
     ran_joined config b l q (q + 1) (handled (memory_at config b.history l q) b l k q i Executes) r
     (executed config b.history l q (entry_of l q i (item_outcome (memory_at config b.history l q) i.item).reply) r.sorted r.before r.run refl refl g refl)
     (λ x. before_next l q x) (tt, tt) (tt, tt)
-handled_runs config b l k q i r g Looks looks =
+handled_runs config b l k q i r g records retry Looks tells =
     ran_joined config b l q (q + 1) (handled (memory_at config b.history l q) b l k q i Looks) r (same_grown config b l q (q + 1) r (λ x. before_next l q x)) (λ x. before_next l q x) (tt, tt)
-    ((record { reading = looks refl; in_range = g; before = at_next l q (entry_of l q i (item_outcome (memory_at config b.history l q) i.item).reply) refl refl; reply = refl }, tt), tt)
+    ((record { reading = tells; in_range = g; before = at_next l q (entry_of l q i (item_outcome (memory_at config b.history l q) i.item).reply) refl refl; reply = refl }, tt), tt)
 
 pub item_runs : (keep : List Entry → List Entry) (config : Config) (b : Account) (l k q : ℕ) (i : Carried) → Ran config b l q → InRange i.item.request → Ran config (joined_by b (on_item keep config b l k q i)) l (q + 1)
-item_runs keep config b l k q i r g = handled_runs config b l k q i r g (item_handling (keep (recorded b.history l q)) config.node.retry b l i) (looks_read (keep (recorded b.history l q)) config.node.retry b l i)
+item_runs keep config b l k q i r g = handled_runs config b l k q i r g (keep (recorded b.history l q)) config.node.retry (item_handling (keep (recorded b.history l q)) config.node.retry b l i)
+    (handling_tells (keep (recorded b.history l q)) config.node.retry b l i)
 
 pub with_entries-append : (es fs h : List Entry) → with_entries (es ++ fs) h ≡ with_entries fs (with_entries es h)
 with_entries-append [] fs h = refl
@@ -232,19 +234,13 @@ ran_next keep config a l e typed r =
     let runs : Runs config a l e (effect keep config a l e) = effect_by keep config a l (RunFit config a l) (run_cases keep config a l r) e typed in
     line_joins config a l runs.position e (effect keep config a l e) runs.ran runs.good runs.shows
 
-ran_from : (keep : List Entry → List Entry) (config : Config) (events : List (ℕ × Event)) (a : Account) (l : ℕ) → IsRisingFrom l events → AreTyped events → Ran config a l 0
-    → Ran config (account_from keep config a events) (past l events) 0
-ran_from keep config [] a l rising typed r = r
-ran_from keep config (e ∷ es) a l rising typed r =
-    ran_from keep config es (next_account keep config a e) (e.0 + 1) rising.1 typed.1
-    (ran_later config _ (suc e.0) (e.0 + 1) (omega arith) (ran_next keep config a e.0 e.1 typed.0 (ran_later config a l e.0 rising.0 r)))
-
 pub ran_nothing : (config : Config) → Ran config nothing_yet 0 0
 ran_nothing config = record { sorted = tt; before = tt; run = tt; calls = tt; items = tt; looked = tt; rising = tt; peeks = tt }
 
 pub ran_of_account : (keep : List Entry → List Entry) (config : Config) (events : List (ℕ × Event)) → IsRisingFrom 0 events → AreTyped events
     → Ran config (account_from keep config nothing_yet events) (past 0 events) 0
-ran_of_account keep config events rising typed = ran_from keep config events nothing_yet 0 rising typed (ran_nothing config)
+ran_of_account keep config events rising typed =
+    of_account keep config (λ a l. Ran config a l 0) (λ a l m. ran_later config a l m) (λ a l e. ran_next keep config a l e) events rising typed (ran_nothing config)
 
 pub law_of_runs : LawOfRuns
 law_of_runs config events rising typed =

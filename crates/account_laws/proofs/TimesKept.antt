@@ -27,6 +27,7 @@ use Rattle.account_laws.proofs.Lists.{each_append, each_weaker, each_slice_get, 
 use Rattle.account_laws.proofs.SameParts.{and_right, eqb_same}
 use Rattle.account_laws.proofs.Moments.{clock, now_kept, now_clock, clock_extended, first_kept, first_new, first_not_after}
 use Rattle.account_laws.proofs.StateRead.{SendableOf}
+use Rattle.account_laws.proofs.Induction.{past}
 use Rattle.account_laws.proofs.Cases.{IsQuiet, IsGiven, Cases, peek_is_quiet, effect_by}
 
 -- ---- what each account keeps
@@ -271,11 +272,6 @@ times_later a l m h t = record {
 
 pub times_next : (keep : List Entry → List Entry) (config : Config) (a : Account) (l : ℕ) (e : Event) → Times a l → Times (extended a l e (effect keep config a l e)) (suc l)
 times_next keep config a l e t = times_kept a l e (effect keep config a l e) t (effect_by keep config a l (Fit a l) (times_cases keep config a l t) e)
-
--- how far a schedule's lines go
-abbrev pub past : ℕ → List (ℕ × Event) → ℕ
-past l [] = l
-past l (e ∷ es) = past (e.0 + 1) es
 
 times_from : (keep : List Entry → List Entry) (config : Config) (events : List (ℕ × Event)) (a : Account) (l : ℕ) → IsRisingFrom l events → Times a l → Times (account_from keep config a events) (past l events)
 times_from keep config [] a l r t = t
