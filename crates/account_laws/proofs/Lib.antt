@@ -25,3 +25,6 @@ pub mod PartsOnce
 pub mod Parts
 pub mod Induction
 pub mod OnceKept
+pub mod Answered
+pub mod Counted
+pub mod AnswersKept

@@ -66,7 +66,7 @@ ending_by_kept a l event e c p (GaveUpAt t) y h =
     let s = option_map_some (λ (first : ℕ × ℕ). GivenUp first.1 t) (first_sent a c p) y h in
     ap (option_map (λ (first : ℕ × ℕ). GivenUp first.1 t)) (sent_kept a l event e c p s.0 s.1) ∙ ap Some s.2
 
-end_kept : (a : Account) (l : ℕ) (event : Event) (e : Effect) (c : ClientNo) (p : Part) (x : PartEnd) → end_of_part a c p ≡ Some x → end_of_part (extended a l event e) c p ≡ Some x
+pub end_kept : (a : Account) (l : ℕ) (event : Event) (e : Effect) (c : ClientNo) (p : Part) (x : PartEnd) → end_of_part a c p ≡ Some x → end_of_part (extended a l event e) c p ≡ Some x
 end_kept a l event e c p x h = ap first_of (texts_extended (part_end c p) a l event e) ∙ first_of-append (texts_with a (part_end c p)) _ x h
 
 -- the ending of a part that is over stays

@@ -5,3 +5,4 @@ pub mod Following
 pub mod Schedules
 pub mod Times
 pub mod Runs
+pub mod Histories

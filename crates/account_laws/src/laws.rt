@@ -1,5 +1,6 @@
 //! Laws of the account of every schedule.
 
+ghost use Rattle.account_laws.specs.Histories.{LawOfParts};
 ghost use Rattle.account_laws.specs.Runs.{LawOfRuns};
 ghost use Rattle.account_laws.specs.Times.{LawOfTimes};
 
@@ -14,4 +15,10 @@ pub fn law_of_times()
 /// run on its line.
 pub fn law_of_runs()
     ensures { LawOfRuns }
+{}
+
+/// Each entry of the history is of a part of an issued call, with the part's request, and no part has two. Each call
+/// answered other than timed out has an entry of each of its parts, and their replies make the answer and its bytes.
+pub fn law_of_parts()
+    ensures { LawOfParts }
 {}
