@@ -93,7 +93,7 @@ map_so : {X Y : Type 0} (f g : X → Y) → ((x : X) → f x ≡ g x) → (xs : 
 map_so f g h [] = refl
 map_so f g h (x ∷ xs) = λ i. h x i ∷ map_so f g h xs i
 
-all_over_is : (a : Account) (c : ClientNo) (n : ℕ) (k : Call) → all_over (call_standing (standing_at a c) (n, k)) ≡ every (map (λ (p : Part × Request). ending a c p.0) (parts_named n k))
+pub all_over_is : (a : Account) (c : ClientNo) (n : ℕ) (k : Call) → all_over (call_standing (standing_at a c) (n, k)) ≡ every (map (λ (p : Part × Request). ending a c p.0) (parts_named n k))
 all_over_is a c n k = ap every
     (map_map (λ (p : ClientPart). ending_of p.standing) (standing_so (standing_at a c)) (parts_named n k)
     ∙ map_so (λ (p : Part × Request). ending_of (standing_at a c p.0)) (λ (p : Part × Request). ending a c p.0) (λ p. ending_of_standing (ending a c p.0) (first_sent a c p.0) (moments_sent a c p.0)) (parts_named n k))

@@ -81,7 +81,7 @@ not_false true h = refl
 not_false false h = grind arith
 
 -- a place whose call has ended
-runs_not : (a : Account) (c : ClientNo) (m : ℕ) (k : Call) → slice_get (issued a c) m ≡ Some k → runs a c m ≡ false → has_ended a c (call_standing (standing_at a c) (m + 1, k)) ≡ true
+pub runs_not : (a : Account) (c : ClientNo) (m : ℕ) (k : Call) → slice_get (issued a c) m ≡ Some k → runs a c m ≡ false → has_ended a c (call_standing (standing_at a c) (m + 1, k)) ≡ true
 runs_not a c m k at_place h =
     not_false (has_ended a c (call_standing (standing_at a c) (m + 1, k)))
     (sym (ap (λ o. elim o as (λ z. Bool) [ None ↦ false | Some j ↦ not (has_ended a c (call_standing (standing_at a c) (m + 1, j))) ]) at_place) ∙ h)

@@ -28,3 +28,5 @@ pub mod OnceKept
 pub mod Answered
 pub mod Counted
 pub mod AnswersKept
+pub mod Settled
+pub mod OrderKept

@@ -131,13 +131,13 @@ unrecorded config a h l q i reply o owned before changing none =
         contrary (is_of i.item.head.client i.part x) of not_of
 
 -- ---- items, over an account whose lines tell the parts
-record ItemsOnce (config : Config) (a : Account) (h : List Entry) (e : Effect) : Type 0 where
-  answers : Each (λ (f : Frame). ReplyStands config a (with_entries e.entries h) f.load) e.frames
-  items : Each (λ (f : Frame). items_of f.load ≡ []) e.frames
-  looks : Each (λ (f : Frame). Each (EntryOwned config a) (if_taken_of f.load)) e.frames
-  entries : Each (EntryOwned config a) e.entries
-  changing : Each (λ (x : Entry). is_changing x.request ≡ true) e.entries
-  distinct : AreDistinct (with_entries e.entries h)
+pub record ItemsOnce (config : Config) (a : Account) (h : List Entry) (e : Effect) : Type 0 where
+  pub answers : Each (λ (f : Frame). ReplyStands config a (with_entries e.entries h) f.load) e.frames
+  pub items : Each (λ (f : Frame). items_of f.load ≡ []) e.frames
+  pub looks : Each (λ (f : Frame). Each (EntryOwned config a) (if_taken_of f.load)) e.frames
+  pub entries : Each (EntryOwned config a) e.entries
+  pub changing : Each (λ (x : Entry). is_changing x.request ≡ true) e.entries
+  pub distinct : AreDistinct (with_entries e.entries h)
 
 entry_owned : (config : Config) (a : Account) (l q : ℕ) (i : Carried) (reply : Reply) → ItemOwned config a i → EntryOwned config a (entry_of l q i reply)
 entry_owned config a l q i reply o = record { orig = i.item.head.orig; owned = record { moment = o.moment; sent = o.sent; request = o.request; process = o.process } }
@@ -184,7 +184,7 @@ handled_once config a b l k q i retry w owned distinct before s Looks tells = re
   distinct = distinct;
 }
 
-item_once : (config : Config) (a b : Account) (l k q : ℕ) (i : Carried) → ItemOwned config a i → Each (EntryOwned config a) b.history → AreDistinct b.history
+pub item_once : (config : Config) (a b : Account) (l k q : ℕ) (i : Carried) → ItemOwned config a i → Each (EntryOwned config a) b.history → AreDistinct b.history
     → Each (λ (x : Entry). is_before l q x ≡ true) b.history → ItemsOnce config a b.history (on_item keep_all config b l k q i)
 item_once config a b l k q i w owned distinct before =
     handled_once config a b l k q i config.node.retry w owned distinct before (memory_at config b.history l q) (item_handling (recorded b.history l q) config.node.retry b l i)
@@ -208,7 +208,7 @@ both_once config a h e f x y =
       distinct = subst AreDistinct (sym join) y.distinct;
     }
 
-items_once : (config : Config) (a : Account) (l k : ℕ) (items : List Carried) (b : Account) (q : ℕ) → Each (ItemOwned config a) items
+pub items_once : (config : Config) (a : Account) (l k : ℕ) (items : List Carried) (b : Account) (q : ℕ) → Each (ItemOwned config a) items
     → Each (EntryOwned config a) b.history → AreDistinct b.history → Ran config b l q → Each (λ (i : Carried). InRange i.item.request) items → ItemsOnce config a b.history (on_items keep_all config b l k q items)
 items_once config a l k [] b q w owned distinct r g = record { answers = tt; items = tt; looks = tt; entries = tt; changing = tt; distinct = distinct }
 items_once config a l k (i ∷ is) b q w owned distinct r g =

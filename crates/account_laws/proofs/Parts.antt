@@ -102,7 +102,7 @@ ids_quiet a l event e i n = record {
     old c p s h = ⊎_elim (λ (x : first_sent a c p ≡ Some s). x) (λ (x : (first_sent a c p ≡ None) × (first_of (filter_map (first_sending c p (now a l)) e.texts) ≡ Some s)).
         absurd (none_some s (sym (ap first_of (none_sent c p (now a l) e.texts n)) ∙ x.1))) (sent_cases a l event e c p s h)
 
-sent_of : (c c' : ClientNo) (p p' : Part) (k id t o m : ℕ) → first_of (filter_map (first_sending c p t) (did.Sent k c' p' id ∷ [])) ≡ Some (o, m) → (c ≡ c') × (p ≡ p') × (o ≡ id)
+pub sent_of : (c c' : ClientNo) (p p' : Part) (k id t o m : ℕ) → first_of (filter_map (first_sending c p t) (did.Sent k c' p' id ∷ [])) ≡ Some (o, m) → (c ≡ c') × (p ≡ p') × (o ≡ id)
 sent_of c c' p p' k id t o m h = go (same_client c c' && same_part p p') refl h
   where
     go : (b : Bool) → (same_client c c' && same_part p p') ≡ b → first_of {A = ℕ × ℕ} (cons_option (cond b (Some (id, t)) None) []) ≡ Some (o, m) → (c ≡ c') × (p ≡ p') × (o ≡ id)

@@ -285,7 +285,7 @@ pub times_of_account : (keep : List Entry → List Entry) (config : Config) (eve
 times_of_account keep config events r = times_from keep config events nothing_yet 0 r times_nothing
 
 -- ---- the law
-first_same : (a : Account) (c d : ClientNo) (p q : Part) (m n : ℕ) → c ≡ d → p ≡ q → FirstAt a c p m → FirstAt a d q n → m ≡ n
+pub first_same : (a : Account) (c d : ClientNo) (p q : Part) (m n : ℕ) → c ≡ d → p ≡ q → FirstAt a c p m → FirstAt a d q n → m ≡ n
 first_same a c d p q m n e f g h = let i : first_sent a c p ≡ Some (g.id, m) = g.sent in let j : first_sent a d q ≡ Some (h.id, n) = h.sent in grind arith
 
 of_age : (a : Account) (f : Frame) (i : Carried) → SentYoung a f i → OfAge a f i

@@ -1,6 +1,6 @@
 //! Laws of the account of every schedule.
 
-ghost use Rattle.account_laws.specs.Histories.{LawOfParts};
+ghost use Rattle.account_laws.specs.Histories.{LawOfParts, LawOfOrder};
 ghost use Rattle.account_laws.specs.Runs.{LawOfRuns};
 ghost use Rattle.account_laws.specs.Times.{LawOfTimes};
 
@@ -21,4 +21,9 @@ pub fn law_of_runs()
 /// answered other than timed out has an entry of each of its parts, and their replies make the answer and its bytes.
 pub fn law_of_parts()
     ensures { LawOfParts }
+{}
+
+/// Where one call of a client depends on another, all entries of the call that was issued first stand first.
+pub fn law_of_order()
+    ensures { LawOfOrder }
 {}
