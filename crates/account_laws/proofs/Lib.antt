@@ -30,3 +30,5 @@ pub mod Counted
 pub mod AnswersKept
 pub mod Settled
 pub mod OrderKept
+pub mod Window
+pub mod WindowKept

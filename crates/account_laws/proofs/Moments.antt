@@ -15,15 +15,11 @@ use Rattle.cl_types.specs.declared.schedule.Event.{Event}
 use Rattle.flat_model.specs.Account.{Account, Line, Effect, ticks_of, now, extended, with_entry, with_entries, is_before}
 use Rattle.flat_model.specs.Clients.{first_sent, first_sending, first_of, texts_with, texts_on}
 use Rattle.std.specs.List.{AllByRecursion as Each}
-use Rattle.account_laws.specs.Times.{FirstAt}
+use Rattle.account_laws.specs.Times.{clock, FirstAt}
 use Rattle.account_laws.proofs.Standings.{line_of, texts_extended}
 use Rattle.account_laws.proofs.Lists.{each_flat_map, each_append, each_first, each_filter_map, first_of-append, first_of-append_none}
 
 -- ---- time
--- all ticks so far
-abbrev pub clock : Account → ℕ
-clock a = sum_by (λ (line : Line). ticks_of line.event) a.lines
-
 none_later : (line : Line) (m l : ℕ) → line.number ≡ l → m ≤ l → filter (λ (x : Line). nat_lt x.number m) (line ∷ []) ≡ []
 none_later line m l e h = go (nat_lt line.number m) (grind (arith, nat_tests))
   where

@@ -26,10 +26,11 @@ use Rattle.flat_model.specs.Ranges.{is_typed}
 use Rattle.flat_model.specs.Events.{entry_of, handled, item_handling, on_judged, on_polled, on_flight, on_item, on_items, effect, account, account_from, keep_all}
 use Rattle.account_laws.specs.Flights.{FlightOf}
 use Rattle.account_laws.specs.Histories.{LawOfOrder}
+use Rattle.account_laws.specs.Times.{clock}
 use Rattle.account_laws.specs.Schedules.{IsRisingFrom, AreTyped}
 use Rattle.account_laws.proofs.Lists.{each_append, each_weaker, each_weaker_with, each_always, each_first, each_flat_map, each_filter_map_from, each_with_entry, each_with_entries}
 use Rattle.account_laws.proofs.SameParts.{contrary, same_is}
-use Rattle.account_laws.proofs.Moments.{clock, now_clock}
+use Rattle.account_laws.proofs.Moments.{now_clock}
 use Rattle.account_laws.proofs.Items.{Tells, handling_tells, items_texts}
 use Rattle.account_laws.proofs.StateRead.{SendableOf}
 use Rattle.account_laws.proofs.Cases.{IsQuiet, IsGiven, Cases, peek_is_quiet, effect_by}

@@ -22,10 +22,10 @@ use Rattle.flat_model.specs.Events.{entry_of, handled, then_also, on_judged, on_
 use Rattle.flat_model.specs.Properties.{CarriesPart}
 use Rattle.account_laws.specs.Flights.{FlightOf}
 use Rattle.account_laws.specs.Schedules.{IsRisingFrom}
-use Rattle.account_laws.specs.Times.{FirstAt, OfAge, GoneFrom, IsSpent, AreOfAge, LawOfTimes}
+use Rattle.account_laws.specs.Times.{clock, FirstAt, OfAge, GoneFrom, IsSpent, AreOfAge, LawOfTimes}
 use Rattle.account_laws.proofs.Lists.{each_append, each_weaker, each_slice_get, each_with_entries}
 use Rattle.account_laws.proofs.SameParts.{and_right, eqb_same}
-use Rattle.account_laws.proofs.Moments.{clock, now_kept, now_clock, clock_extended, first_kept, first_new, first_not_after}
+use Rattle.account_laws.proofs.Moments.{now_kept, now_clock, clock_extended, first_kept, first_new, first_not_after}
 use Rattle.account_laws.proofs.StateRead.{SendableOf}
 use Rattle.account_laws.proofs.Induction.{past}
 use Rattle.account_laws.proofs.Cases.{IsQuiet, IsGiven, Cases, peek_is_quiet, effect_by}

@@ -6,3 +6,4 @@ pub mod Schedules
 pub mod Times
 pub mod Runs
 pub mod Histories
+pub mod Window

@@ -1,5 +1,5 @@
 -- The law of times: how old a part is when a frame that carries it is sent, and until when such a frame is live.
-use Rattle.std.specs.Prelude.{ℕ, ◌+◌, ◌-◌, ◌<◌, ◌≤◌, ◌≡◌, true, false, List, Some}
+use Rattle.std.specs.Prelude.{ℕ, ◌+◌, ◌-◌, ◌<◌, ◌≤◌, ◌≡◌, true, false, List, Some, sum_by}
 use Rattle.std.specs.List.{AllByRecursion as Each}
 use Rattle.cl_types.specs.declared.config.Config.{Config}
 use Rattle.cl_types.specs.declared.limits.TheConstants.{LAST_RESEND, SPAN}
@@ -9,11 +9,15 @@ use Rattle.cl_types.specs.declared.line.Entry.{Entry}
 use Rattle.cl_types.specs.declared.numbers.ClientNo.{ClientNo}
 use Rattle.cl_types.specs.declared.reply.Part.{Part}
 use Rattle.cl_types.specs.declared.schedule.Event.{Event}
-use Rattle.flat_model.specs.Account.{Account, Line, Frame, Carried, items_of, is_live, now}
+use Rattle.flat_model.specs.Account.{Account, Line, Frame, Carried, items_of, is_live, now, ticks_of}
 use Rattle.flat_model.specs.Clients.{first_sent}
 use Rattle.flat_model.specs.Events.{account}
 use Rattle.flat_model.specs.Properties.{CarriesPart}
 use Rattle.account_laws.specs.Schedules.{IsRisingFrom}
+
+-- all ticks so far
+abbrev pub clock : Account → ℕ
+clock a = sum_by (λ (line : Line). ticks_of line.event) a.lines
 
 -- the part was first sent at this moment
 pub record FirstAt (a : Account) (c : ClientNo) (p : Part) (moment : ℕ) : Type 0 where

@@ -3,6 +3,7 @@
 ghost use Rattle.account_laws.specs.Histories.{LawOfParts, LawOfOrder};
 ghost use Rattle.account_laws.specs.Runs.{LawOfRuns};
 ghost use Rattle.account_laws.specs.Times.{LawOfTimes};
+ghost use Rattle.account_laws.specs.Window.{LawOfWindow, OneAccount};
 
 /// A frame that carries a part is sent at an age of the part at which it may still be sent again, and is live only
 /// before the part may be given up. None is live once its part was given up, and none is live as long as the span
@@ -26,4 +27,16 @@ pub fn law_of_parts()
 /// Where one call of a client depends on another, all entries of the call that was issued first stand first.
 pub fn law_of_order()
     ensures { LawOfOrder }
+{}
+
+/// While a request frame is live, the latest changing entries, so many as the node keeps, tell of each part that it
+/// carries what all tell.
+pub fn law_of_window()
+    ensures { LawOfWindow }
+{}
+
+/// The account that remembers the latest changing entries, so many as the node keeps, is the account that remembers
+/// all, where the node keeps at least one.
+pub fn one_account_for_the_other()
+    ensures { OneAccount }
 {}

@@ -1,0 +1,28 @@
+-- The law of the window: the latest records tell of what is live what all records tell.
+use Rattle.std.specs.Prelude.{ℕ, ◌≤◌, ◌≡◌, true, List}
+use Rattle.std.specs.List.{AllByRecursion as Each}
+use Rattle.cl_types.specs.declared.config.Config.{Config}
+use Rattle.cl_types.specs.declared.schedule.Event.{Event}
+use Rattle.flat_model.specs.Account.{Account, Frame, Carried, is_live}
+use Rattle.flat_model.specs.Events.{account, account_of_latest, record_of}
+use Rattle.flat_model.specs.Handling.{latest}
+use Rattle.flat_model.specs.Run.{changing_of}
+use Rattle.account_laws.specs.Schedules.{IsRisingFrom, AreTyped}
+use Rattle.account_laws.specs.Times.{clock, EachItem}
+
+-- from now on, while the frame is live, the latest changing entries tell of the item's part what all tell
+abbrev pub LatestTell : Config → Account → Frame → Carried → Type 0
+LatestTell config a f i =
+    (t : ℕ) → clock a ≤ t → is_live t f ≡ true
+    → record_of (latest config.node.retry (changing_of a.history)) i.item.head.client i.part ≡ record_of (changing_of a.history) i.item.head.client i.part
+
+abbrev pub LawOfWindow : Type 0
+LawOfWindow =
+    (config : Config) (events : List (ℕ × Event)) → 1 ≤ config.node.retry → IsRisingFrom 0 events → AreTyped events
+    → EachItem (LatestTell config (account config events)) (account config events).frames
+
+-- so the account that remembers the latest changing entries, so many as the node keeps, is the account that remembers all
+abbrev pub OneAccount : Type 0
+OneAccount =
+    (config : Config) (events : List (ℕ × Event)) → 1 ≤ config.node.retry → IsRisingFrom 0 events → AreTyped events
+    → account config events ≡ account_of_latest config events
