@@ -1,0 +1,3 @@
+pub mod LinkFrames
+pub mod Got
+pub mod Fields
