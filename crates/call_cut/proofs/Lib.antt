@@ -1,0 +1,4 @@
+pub mod PieceLemmas
+pub mod Buffers
+pub mod Takings
+pub mod Endings

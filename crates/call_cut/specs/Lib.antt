@@ -1,0 +1,4 @@
+pub mod Fills
+pub mod Came
+pub mod Taking
+pub mod Ends
