@@ -1,0 +1,7 @@
+-- What is from the place on begins with the number's bytes.
+use Rattle.std.specs.Int.{to_be_bytes, w64}
+use Rattle.frame_codec.proofs.PlaceLemmas.{put_mid-with_bytes}
+use Rattle.frame_codec.proofs.places.put_u64.Goals as goal
+
+pub returns : goal.returns
+returns c = put_mid-with_bytes c.args.at (to_be_bytes w64 c.args.n) c.args.out.now _ c.requires c.write_u64.ensures

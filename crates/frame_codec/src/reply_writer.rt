@@ -1,0 +1,87 @@
+//! Writes replies: the body first, since its length stands in the header.
+
+ghost use Rattle.std.specs.Prelude.{◌≡◌, ◌+◌, ◌≤◌, ◌++◌, ◌∷◌, drop, length, IsTrue};
+ghost use Rattle.cl_types.specs.Bytes.{bytes_at};
+ghost use Rattle.cl_types.specs.Requests.{reply_of};
+ghost use Rattle.cl_types.specs.declared.reply.Reply.TheVariants as owned;
+ghost use Rattle.flat_model.specs.Frames.{IsHead, is_reply_of, kind_number, reply_frame, reply_value, status_in, status_of};
+ghost use Rattle.frame_codec.specs.Writing.{IsWritten, may_carry};
+
+use crate::headers::{HEADER_BYTES, number_of, write_header};
+use crate::places::{put_u32, put_u64};
+use cl_types::call::Kind;
+use cl_types::frame::Head;
+use cl_types::reply::{Refusal, ReplyRef};
+
+/// The status of a refusal.
+fn status_of(refusal: Refusal) -> u8
+    ensures { result ≡ status_of refusal }
+{
+    match refusal {
+        Refusal::NoMapping => 1,
+        Refusal::NoPermission => 2,
+        Refusal::NoPage => 3,
+        Refusal::NoRange => 4,
+        Refusal::NoOffload => 5,
+        Refusal::ObjectFull => 6,
+        Refusal::NoKey => 7,
+        Refusal::BadOp => 8,
+    }
+}
+
+/// Writes the status and the value of a reply, and tells how many bytes they have.
+fn write_body(body: &ReplyRef, out: &mut [u8]) -> usize
+    requires room { 1025 ≤ length out.old }
+    requires short { length (reply_value (reply_of body.now)) ≤ 1024 }
+    ensures len { result ≡ length (status_in (reply_of body.now) ∷ reply_value (reply_of body.now)) }
+    ensures short { result ≤ 1025 }
+    ensures written { out.new ≡ (status_in (reply_of body.now) ∷ reply_value (reply_of body.now)) ++ drop result out.old }
+{
+    out[0] = 0;
+    match *body {
+        ReplyRef::Refused(refusal) => {
+            out[0] = status_of(refusal);
+            1
+        }
+        ReplyRef::Nothing => 1,
+        ReplyRef::At(addr) => {
+            put_u32(out, 1, addr.0);
+            5
+        }
+        ReplyRef::Word(word) => {
+            put_u64(out, 1, word);
+            9
+        }
+        ReplyRef::Got(bytes) => {
+            out[1..1 + bytes.len()].copy_from_slice(bytes);
+            1 + bytes.len()
+        }
+    }
+}
+
+/// Writes a reply to a request of this kind at the start of `out`, and tells how many bytes it has. The rest of `out`
+/// stays.
+pub fn write_reply(head: &Head, kind: Kind, body: &ReplyRef, out: &mut [u8]) -> usize
+    requires room { 1200 ≤ length out.old }
+    requires head { IsHead head.now }
+    requires body { IsTrue (is_reply_of kind (reply_of body.now)) }
+    ensures { IsWritten (reply_frame head.now kind (reply_of body.now)) result out.old out.new }
+{
+    let len = write_body(body, &mut out[HEADER_BYTES..]);
+    write_header(128 + number_of(kind), head, len as u16, out);
+    HEADER_BYTES + len
+}
+
+/// Writes the reply to a Read or an Offload whose `len` bytes stand in `out` already, from place 27 on, and tells how
+/// many bytes it has. All bytes from place 27 on stay.
+pub fn write_got(head: &Head, kind: Kind, len: usize, out: &mut [u8]) -> usize
+    requires room { 1200 ≤ length out.old }
+    requires head { IsHead head.now }
+    requires len { IsTrue (may_carry kind len) }
+    ensures written { IsWritten (reply_frame head.now kind (owned.Got (bytes_at 27 len out.old))) result out.old out.new }
+    ensures kept { drop 27 out.new ≡ drop 27 out.old }
+{
+    out[HEADER_BYTES] = 0;
+    write_header(128 + number_of(kind), head, 1 + len as u16, out);
+    HEADER_BYTES + 1 + len
+}
