@@ -13,6 +13,8 @@ mod reply_reader;
 mod reply_writer;
 mod request_reader;
 mod request_writer;
+#[cfg(test)]
+mod tests;
 mod views;
 
 pub use crate::reply_reader::read_reply;

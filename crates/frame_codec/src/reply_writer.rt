@@ -65,7 +65,8 @@ pub fn write_reply(head: &Head, kind: Kind, body: &ReplyRef, out: &mut [u8]) -> 
     requires room { 1200 ≤ length out.old }
     requires head { IsHead head.now }
     requires body { IsTrue (is_reply_of kind (reply_of body.now)) }
-    ensures { IsWritten (reply_frame head.now kind (reply_of body.now)) result out.old out.new }
+    ensures short { result ≤ 1051 }
+    ensures written { IsWritten (reply_frame head.now kind (reply_of body.now)) result out.old out.new }
 {
     let len = write_body(body, &mut out[HEADER_BYTES..]);
     write_header(128 + number_of(kind), head, len as u16, out);
@@ -78,6 +79,7 @@ pub fn write_got(head: &Head, kind: Kind, len: usize, out: &mut [u8]) -> usize
     requires room { 1200 ≤ length out.old }
     requires head { IsHead head.now }
     requires len { IsTrue (may_carry kind len) }
+    ensures short { result ≤ 1051 }
     ensures written { IsWritten (reply_frame head.now kind (owned.Got (bytes_at 27 len out.old))) result out.old out.new }
     ensures kept { drop 27 out.new ≡ drop 27 out.old }
 {

@@ -135,7 +135,8 @@ pub fn write_request(head: &Head, body: &RequestRef, out: &mut [u8]) -> usize
     requires room { 1200 ≤ length out.old }
     requires head { IsHead head.now }
     requires body { IsTrue (is_in_range (request_of body.now)) }
-    ensures { IsWritten (request_frame head.now (request_of body.now)) result out.old out.new }
+    ensures short { result ≤ 1054 }
+    ensures written { IsWritten (request_frame head.now (request_of body.now)) result out.old out.new }
 {
     let len = write_body(body, &mut out[HEADER_BYTES..]);
     write_header(number_of(kind_of(body)), head, len as u16, out);

@@ -5,8 +5,8 @@ use Rattle.flat_model.specs.Frames.{request_body}
 use Rattle.frame_codec.proofs.WriterLemmas.{frame_written}
 use Rattle.frame_codec.proofs.request_writer.write_request.Goals as goal
 
-pub returns : goal.returns
-returns c =
+pub returns-clause-written : goal.returns-clause-written
+returns-clause-written c =
     rw (← c.kind_of.ensures, ← c.number_of.ensures)
     (frame_written c.number_of.result c.args.head.now c.write_body-len.result (request_body (request_of c.args.body.now)) c.args.out.now _ _ c.write_body-len.ensures.len
     (omega (arith, c.requires.room)) c.write_body-len.auto.out c.write_body-len.ensures.written c.write_header.ensures)

@@ -1,0 +1,200 @@
+//! What no clause says: values from outside, and that calls succeed.
+
+ghost use Rattle.std.specs.Prelude.{◌<◌};
+
+use crate::{
+    BadFrame, FieldName, Head, read_reply, read_request, write_got, write_reply, write_request,
+};
+use cl_types::call::{AtomicOp, Kind, Perm};
+use cl_types::numbers::Addr;
+use cl_types::reply::{Refusal, ReplyRef};
+use cl_types::request::RequestRef;
+
+/// Client 1, process 1, id 1, orig 1: Alloc of one page to read and write.
+const ALLOC: &[u8] = b"CL\x01\x01\0\x01\0\x01\0\0\0\0\0\0\0\x01\0\0\0\0\0\0\0\x01\0\x03\0\x01\x03";
+
+/// Its reply: Ok at 0x1000.
+const ALLOCATED: &[u8] =
+    b"CL\x01\x81\0\x01\0\x01\0\0\0\0\0\0\0\x01\0\0\0\0\0\0\0\x01\0\x05\0\0\0\x10\0";
+
+/// Client 1, process 1, id 2, orig 2: Write of "abc" at 0x1000.
+const WRITE: &[u8] =
+    b"CL\x01\x04\0\x01\0\x01\0\0\0\0\0\0\0\x02\0\0\0\0\0\0\0\x02\0\x07\0\0\x10\0abc";
+
+/// Client 1, process 1, id 5, orig 3: Read of 4 bytes at 0x1ffc.
+const READ: &[u8] =
+    b"CL\x01\x03\0\x01\0\x01\0\0\0\0\0\0\0\x05\0\0\0\0\0\0\0\x03\0\x06\0\0\x1f\xfc\0\x04";
+
+/// Client 2, process 1, id 1, orig 1: Add of 3 at 0x1000.
+const ADD: &[u8] =
+    b"CL\x01\x05\0\x02\0\x01\0\0\0\0\0\0\0\x01\0\0\0\0\0\0\0\x01\0\x0d\0\0\x10\0\x03\0\0\0\0\0\0\0\x03";
+
+/// Its reply: the old word 5.
+const ADDED: &[u8] =
+    b"CL\x01\x85\0\x02\0\x01\0\0\0\0\0\0\0\x01\0\0\0\0\0\0\0\x01\0\x09\0\0\0\0\0\0\0\0\x05";
+
+/// Client 1, process 1, id 1, orig 1: no mapping, to a Write.
+const NO_MAPPING: &[u8] = b"CL\x01\x84\0\x01\0\x01\0\0\0\0\0\0\0\x01\0\0\0\0\0\0\0\x01\0\x01\x01";
+
+/// The numbers of a head: client, process, id and orig.
+fn numbers(head: &Head) -> (u16, u16, u64, u64) {
+    (head.client.0, head.pid.number(), head.id, head.orig)
+}
+
+/// The request in the bytes, where they spell one.
+fn request_in(bytes: &[u8]) -> Option<RequestRef<'_>> {
+    match read_request(bytes) {
+        Ok(view) => Some(view.body),
+        Err(_) => None,
+    }
+}
+
+/// The reply in the bytes and its kind, where they spell one.
+fn reply_in(bytes: &[u8]) -> Option<(Kind, ReplyRef<'_>)> {
+    match read_reply(bytes) {
+        Ok(view) => Some((view.kind, view.body)),
+        Err(_) => None,
+    }
+}
+
+#[test]
+fn requests_are_read_as_the_vectors_say(rt: HostRuntime) {
+    assert!(rt;
+        matches!(
+            request_in(ALLOC),
+            Some(RequestRef::Alloc {
+                pages: 1,
+                perm: Perm::ReadWrite
+            })
+        )
+    );
+    assert!(rt;
+        matches!(request_in(WRITE), Some(RequestRef::Write { addr: Addr(0x1000), bytes }) if bytes == b"abc".as_slice())
+    );
+    assert!(rt;
+        matches!(
+            request_in(READ),
+            Some(RequestRef::Read {
+                addr: Addr(0x1ffc),
+                len: 4
+            })
+        )
+    );
+    assert!(rt;
+        matches!(
+            request_in(ADD),
+            Some(RequestRef::Atomic {
+                addr: Addr(0x1000),
+                op: AtomicOp::Add { n: 3 }
+            })
+        )
+    );
+}
+
+#[test]
+fn replies_are_read_as_the_vectors_say(rt: HostRuntime) {
+    assert!(rt;
+        matches!(
+            reply_in(ALLOCATED),
+            Some((Kind::Alloc, ReplyRef::At(Addr(0x1000))))
+        )
+    );
+    assert!(rt; matches!(reply_in(ADDED), Some((Kind::Atomic, ReplyRef::Word(5)))));
+    assert!(rt;
+        matches!(
+            reply_in(NO_MAPPING),
+            Some((Kind::Write, ReplyRef::Refused(Refusal::NoMapping)))
+        )
+    );
+}
+
+#[test]
+fn requests_are_written_as_the_vectors(rt: HostRuntime) {
+    let cases = [
+        (ALLOC, (1, 1, 1, 1)),
+        (WRITE, (1, 1, 2, 2)),
+        (READ, (1, 1, 5, 3)),
+        (ADD, (2, 1, 1, 1)),
+    ];
+    for (bytes, head) in cases {
+        let Ok(view) = read_request(bytes) else {
+            panic!(rt; "{bytes:?} is refused");
+        };
+        assert_eq!(rt; numbers(&view.head), head);
+        let mut out = [0xee; 1200];
+        let len = write_request(&view.head, &view.body, &mut out);
+        assert_eq!(rt; &out[..len], bytes);
+        assert_eq!(rt; out[len], 0xee);
+    }
+}
+
+#[test]
+fn replies_are_written_as_the_vectors(rt: HostRuntime) {
+    let cases = [
+        (ALLOCATED, (1, 1, 1, 1)),
+        (ADDED, (2, 1, 1, 1)),
+        (NO_MAPPING, (1, 1, 1, 1)),
+    ];
+    for (bytes, head) in cases {
+        let Ok(view) = read_reply(bytes) else {
+            panic!(rt; "{bytes:?} is refused");
+        };
+        assert_eq!(rt; numbers(&view.head), head);
+        let mut out = [0xee; 1200];
+        let len = write_reply(&view.head, view.kind, &view.body, &mut out);
+        assert_eq!(rt; &out[..len], bytes);
+        assert_eq!(rt; out[len], 0xee);
+    }
+}
+
+#[test]
+fn bytes_that_stand_in_a_buffer_are_written_as_a_reply(rt: HostRuntime) {
+    let Ok(view) = read_request(READ) else {
+        panic!(rt; "the read is refused");
+    };
+    let mut out = [0xee; 1200];
+    out[27..32].copy_from_slice(b"abc\0d");
+    let len = write_got(&view.head, Kind::Read, 4, &mut out);
+    assert_eq!(rt;
+        &out[..len],
+        b"CL\x01\x83\0\x01\0\x01\0\0\0\0\0\0\0\x05\0\0\0\0\0\0\0\x03\0\x05\0abc\0".as_slice()
+    );
+    assert_eq!(rt; out[31], b'd');
+    assert!(rt;
+        matches!(reply_in(&out[..len]), Some((Kind::Read, ReplyRef::Got(bytes))) if bytes == b"abc\0".as_slice())
+    );
+}
+
+/// The fault of the Alloc's bytes, with another byte at a place.
+fn fault_with(at: usize, byte: u8) -> Option<BadFrame>
+    requires { at < 29 }
+{
+    let mut bytes = [0; 29];
+    bytes.copy_from_slice(ALLOC);
+    bytes[at] = byte;
+    match read_request(&bytes) {
+        Ok(_) => None,
+        Err(fault) => Some(fault),
+    }
+}
+
+#[test]
+fn the_first_fault_is_told(rt: HostRuntime) {
+    assert_eq!(rt; fault_with(0, 0x44), Some(BadFrame::Magic));
+    assert_eq!(rt; fault_with(2, 2), Some(BadFrame::Version(2)));
+    assert_eq!(rt; fault_with(3, 0x81), Some(BadFrame::Kind(0x81)));
+    assert_eq!(rt;
+        fault_with(25, 4),
+        Some(BadFrame::Short { have: 29, need: 30 })
+    );
+    assert_eq!(rt;
+        fault_with(25, 2),
+        Some(BadFrame::Long { have: 29, need: 28 })
+    );
+    assert_eq!(rt; fault_with(7, 0), Some(BadFrame::Field(FieldName::Pid)));
+    assert_eq!(rt; fault_with(15, 0), Some(BadFrame::Field(FieldName::Id)));
+    assert_eq!(rt; fault_with(23, 2), Some(BadFrame::Field(FieldName::Orig)));
+    assert_eq!(rt; fault_with(3, 2), Some(BadFrame::Field(FieldName::Body)));
+    assert_eq!(rt; fault_with(27, 0), Some(BadFrame::Field(FieldName::Pages)));
+    assert_eq!(rt; fault_with(28, 4), Some(BadFrame::Field(FieldName::Perm)));
+}
