@@ -1,6 +1,8 @@
 -- From the parts that a reader has judged to the whole frame.
 use Rattle.std.proofs.Common.{◌≡◌, ℕ, ◌+◌, ◌-◌, ◌<◌, ◌≤◌, suc, zero, Bool, List, [], ◌∷◌, ◌++◌, length, take, drop, get_or, Option, Some, None, refl, sym, ap, ◌∙◌, subst, inl, inr, arith}
-use Rattle.std.specs.Prelude.{IsTrue, slice_index}
+use Rattle.std.specs.Prelude.{IsTrue, IfOk, Result, Ok, Err, slice_index}
+use Rattle.std.specs.Result.{result_err}
+use Rattle.cl_types.specs.Requests.{request_of, reply_of}
 use Rattle.std.proofs.lemmas.Bool.{cases_Bool, and_from}
 use Rattle.std.proofs.lemmas.Bool.Decides.{nat_tests}
 use Rattle.std.proofs.lemmas.List.{length-drop}
@@ -16,10 +18,14 @@ use Rattle.flat_model.specs.Ranges.{are_bytes}
 use Rattle.flat_model.specs.Frames.{Checks, SpellsRequest, SpellsReply, body_len, header_checks, head_in, kind_number, request_fault, request_in_body, reply_fault, reply_in, reply_in_body}
 use Rattle.flat_model.specs.FrameLaws.{ReadsAsRequest, ReadsAsReply}
 use Rattle.flat_model.proofs.FrameLemmas.{one_kind}
-use Rattle.flat_model.proofs.ReplyFrameLemmas.{replies_are_read_again}
+use Rattle.flat_model.proofs.ReplyFrameLemmas.{replies_are_read_again, bytes_spell_one_reply}
+use Rattle.flat_model.proofs.RequestFrameLemmas.{requests_are_read_again, bytes_spell_one_request}
 use Rattle.flat_model.proofs.FaultlessRequestLemmas.{faultless_requests_are_spelled}
 use Rattle.flat_model.proofs.FaultlessReplyLemmas.{faultless_replies_are_spelled}
 use Rattle.frame_codec.specs.Headers.{IsHeaderOf}
+use Rattle.frame_codec.specs.Reading.{GivesSpelledRequest, GivesSpelledReply}
+use Rattle.frame_codec.specs.declared.views.RequestView.{RequestView}
+use Rattle.frame_codec.specs.declared.views.ReplyView.{ReplyView}
 use Rattle.frame_codec.specs.declared.headers.Header.{Header}
 
 -- numbers of a byte's type are bytes
@@ -99,3 +105,18 @@ reply_spelled bytes head kind body small read =
     let again = replies_are_read_again bytes (head_in bytes) spelled.0 (reply_in bytes) spelled.1 in
     let same : spelled.0 ≡ kind = one_kind spelled.0 kind (omega (arith, again.same_kind, read.same_kind)) in
     rw (read.same_head, read.same_body) at (subst (λ k. SpellsReply bytes (head_in bytes) k (reply_in bytes)) same spelled.1)
+
+-- ---- exactly what is spelled is given
+pub request_exactly : (bytes : List ℕ) (result : Result RequestView BadFrame) → result_err result ≡ request_fault bytes
+    → IfOk result (λ view. SpellsRequest bytes view.head (request_of view.body)) → GivesSpelledRequest bytes result
+request_exactly bytes (Ok view) none spelled head body =
+    (λ other. bytes_spell_one_request bytes view.head head (request_of view.body) body spelled other, λ same. rw (same.0, same.1) at spelled)
+request_exactly bytes (Err fault) told none head body =
+    (λ other. let read = requests_are_read_again bytes head body other in absurd (cc), λ ok. absurd ok)
+
+pub reply_exactly : (bytes : List ℕ) (result : Result ReplyView BadFrame) → result_err result ≡ reply_fault bytes
+    → IfOk result (λ view. SpellsReply bytes view.head view.kind (reply_of view.body)) → GivesSpelledReply bytes result
+reply_exactly bytes (Ok view) none spelled head kind body =
+    (λ other. bytes_spell_one_reply bytes view.head head view.kind kind (reply_of view.body) body spelled other, λ same. rw (same.0, same.1, same.2) at spelled)
+reply_exactly bytes (Err fault) told none head kind body =
+    (λ other. let read = replies_are_read_again bytes head kind body other in absurd (cc), λ ok. absurd ok)

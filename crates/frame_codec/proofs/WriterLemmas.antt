@@ -9,6 +9,9 @@ use Rattle.cl_types.specs.declared.call.Kind.TheVariants as kind
 use Rattle.cl_types.specs.declared.frame.Head.{Head}
 use Rattle.flat_model.specs.Frames.{frame_of}
 use Rattle.flat_model.proofs.FrameLemmas.{length-frame}
+use Rattle.flat_model.proofs.RequestFrameLemmas.{requests_are_read_again}
+use Rattle.flat_model.proofs.ReplyFrameLemmas.{replies_are_read_again}
+use Rattle.frame_codec.specs.Laws.{WrittenRequestsAreReadAgain, WrittenRepliesAreReadAgain}
 use Rattle.frame_codec.specs.Headers.{header_of}
 use Rattle.frame_codec.specs.Writing.{IsWritten, may_carry}
 use Rattle.frame_codec.proofs.PlaceLemmas.{put_mid-with_bytes}
@@ -73,3 +76,12 @@ carried_len kind.Alloc n good = absurd (cc)
 carried_len kind.Free n good = absurd (cc)
 carried_len kind.Write n good = absurd (cc)
 carried_len kind.Atomic n good = absurd (cc)
+
+-- ---- what was written is read again
+pub written_requests_are_read_again : WrittenRequestsAreReadAgain
+written_requests_are_read_again head body n old new good_head good_body written =
+    requests_are_read_again (take n new) head body (record { good_head = good_head; good_body = good_body; spelling = written.spelling })
+
+pub written_replies_are_read_again : WrittenRepliesAreReadAgain
+written_replies_are_read_again head kind body n old new good_head good_body written =
+    replies_are_read_again (take n new) head kind body (record { good_head = good_head; good_body = good_body; spelling = written.spelling })

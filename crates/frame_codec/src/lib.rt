@@ -8,6 +8,7 @@
 #![tactic(auto)]
 
 mod headers;
+pub mod laws;
 mod places;
 mod reply_reader;
 mod reply_writer;

@@ -8,6 +8,7 @@ ghost use Rattle.cl_types.specs.Requests.{reply_of};
 ghost use Rattle.flat_model.specs.Faults.{first_fault};
 ghost use Rattle.flat_model.specs.FrameLaws.{ReadsAsReply};
 ghost use Rattle.flat_model.specs.Frames.{SpellsReply, field, kind_number, number_64, ok_checks, refusal_in, reply_checks, reply_fault, reply_in_body};
+ghost use Rattle.frame_codec.specs.Reading.{GivesSpelledReply};
 
 use crate::headers::{HEADER_BYTES, read_header};
 use crate::places::{u32_at, u64_at};
@@ -122,6 +123,7 @@ fn read_body(kind: Kind, body: &[u8]) -> Result<ReplyRef<'_>, BadFrame>
 
 /// Reads a reply. `Ok` comes exactly where the bytes spell one, and else the first fault of the bytes is told.
 pub fn read_reply(bytes: &[u8]) -> Result<ReplyView<'_>, BadFrame>
+    ensures exactly { GivesSpelledReply bytes.now result }
     ensures spelled { IfOk result (λ view. SpellsReply bytes.now view.head view.kind (reply_of view.body)) }
     ensures read { IfOk result (λ view. ReadsAsReply bytes.now view.head view.kind (reply_of view.body)) }
     ensures fault { result_err result ≡ reply_fault bytes.now }

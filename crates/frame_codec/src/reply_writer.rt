@@ -79,6 +79,7 @@ pub fn write_got(head: &Head, kind: Kind, len: usize, out: &mut [u8]) -> usize
     requires room { 1200 ≤ length out.old }
     requires head { IsHead head.now }
     requires len { IsTrue (may_carry kind len) }
+    ensures len { result ≡ 27 + len }
     ensures short { result ≤ 1051 }
     ensures written { IsWritten (reply_frame head.now kind (owned.Got (bytes_at 27 len out.old))) result out.old out.new }
     ensures kept { drop 27 out.new ≡ drop 27 out.old }

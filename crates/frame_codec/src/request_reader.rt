@@ -7,6 +7,7 @@ ghost use Rattle.cl_types.specs.Requests.{request_of};
 ghost use Rattle.flat_model.specs.Faults.{first_fault};
 ghost use Rattle.flat_model.specs.FrameLaws.{ReadsAsRequest};
 ghost use Rattle.flat_model.specs.Frames.{SpellsRequest, alloc_checks, atomic_checks, free_checks, is_op, kind_number, offload_checks, op_in, perm_in, read_checks, request_checks, request_fault, request_in_body, write_checks};
+ghost use Rattle.frame_codec.specs.Reading.{GivesSpelledRequest};
 
 use crate::headers::{HEADER_BYTES, read_header};
 use crate::places::{u16_at, u32_at, u64_at};
@@ -191,6 +192,7 @@ fn read_body(kind: Kind, body: &[u8]) -> Result<RequestRef<'_>, BadFrame>
 
 /// Reads a request. `Ok` comes exactly where the bytes spell one, and else the first fault of the bytes is told.
 pub fn read_request(bytes: &[u8]) -> Result<RequestView<'_>, BadFrame>
+    ensures exactly { GivesSpelledRequest bytes.now result }
     ensures spelled { IfOk result (λ view. SpellsRequest bytes.now view.head (request_of view.body)) }
     ensures read { IfOk result (λ view. ReadsAsRequest bytes.now view.head (request_of view.body)) }
     ensures fault { result_err result ≡ request_fault bytes.now }

@@ -1,9 +1,9 @@
 -- A request is judged by its header and then by its body.
-use Rattle.std.proofs.Common.{◌≡◌, ◌∙◌, None, drop, take, length, ◌-◌, zero-add, refl, sym, arith}
-use Rattle.std.proofs.lemmas.Result.{err_from_is_err_and}
+use Rattle.std.proofs.Common.{◌≡◌, ◌∙◌, Ok, None, drop, take, length, ◌-◌, zero-add, refl, sym, arith}
+use Rattle.std.proofs.lemmas.Result.{err_from_is_err_and, IfOk-from_err}
 use Rattle.cl_types.specs.Requests.{request_of}
 use Rattle.flat_model.specs.Frames.{request_checks, request_fault}
-use Rattle.frame_codec.proofs.ReaderLemmas.{behind_header, fault_in-header, fault_in-body, request_read, request_spelled}
+use Rattle.frame_codec.proofs.ReaderLemmas.{behind_header, fault_in-header, fault_in-body, request_read, request_spelled, request_exactly}
 use Rattle.frame_codec.proofs.request_reader.read_request.Goals as goal
 
 pub returns-in_err-header-clause-fault : goal.returns-in_err-header-clause-fault
@@ -29,3 +29,15 @@ returns-clause-read c =
 pub returns-clause-spelled : goal.returns-clause-spelled
 returns-clause-spelled c =
     request_spelled c.args.bytes.now c.in_ok-header.header.head (request_of c.in_ok-body.body) (λ i. omega (arith, c.type_inv.bytes i)) (returns-clause-read c)
+
+pub returns-in_err-header-clause-exactly : goal.returns-in_err-header-clause-exactly
+returns-in_err-header-clause-exactly c =
+    request_exactly c.args.bytes.now c.from_residual.result (returns-in_err-header-clause-fault c) (IfOk-from_err _ _ c.from_residual.ensures.0)
+
+pub returns-in_err-body-clause-exactly : goal.returns-in_err-body-clause-exactly
+returns-in_err-body-clause-exactly c =
+    request_exactly c.args.bytes.now c.from_residual-in_err-body.result (returns-in_err-body-clause-fault c) (IfOk-from_err _ _ c.from_residual-in_err-body.ensures.0)
+
+pub returns-clause-exactly : goal.returns-clause-exactly
+returns-clause-exactly c =
+    request_exactly c.args.bytes.now (Ok (record { head = c.in_ok-header.header.head; body = c.in_ok-body.body })) (returns-clause-fault c) (returns-clause-spelled c)

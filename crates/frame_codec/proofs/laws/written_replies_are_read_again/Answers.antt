@@ -1,0 +1,6 @@
+-- The law is the lemma of its name.
+use Rattle.frame_codec.proofs.WriterLemmas.{written_replies_are_read_again}
+use Rattle.frame_codec.proofs.laws.written_replies_are_read_again.Goals as goal
+
+pub returns : goal.returns
+returns c = written_replies_are_read_again
