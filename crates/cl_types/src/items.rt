@@ -66,6 +66,15 @@ impl<T: Drop> Items<T> {
 impl Items<u8> {
     ghost use Rattle.cl_types.specs.Lending.{LendsBytes};
 
+    /// Appends bytes, in one copy. Room grows by more than what is appended, so that many calls copy little.
+    pub fn append(&mut self, bytes: &[u8]) -> Result<(), NoMemory>
+        ensures appended { OnOk result (self.new ≡ self.old ++ bytes.now) }
+        ensures unchanged { OnErr result (self.new ≡ self.old) }
+    {
+        self.items.extend_from_slice(bytes)?;
+        Ok(())
+    }
+
     /// The bytes, to be changed; their number stays.
     pub fn as_mut_slice(&mut self) -> &mut [u8]
         ensures* writes_back { sem 𝓛 (LendsBytes self.entry result) }
