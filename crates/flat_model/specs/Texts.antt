@@ -170,9 +170,13 @@ texts_text [] = []
 texts_text (d ∷ []) = did_text d
 texts_text (d ∷ e ∷ ds) = did_text d ++ codes "; " ++ texts_text (e ∷ ds)
 
+-- the line of this number, with these texts and this ending
+abbrev pub numbered_text : ℕ → List Did → Option EndedCall → Text
+numbered_text number texts ended = words (decimal number ∷ (texts_text texts ++ ending_text ended) ∷ [])
+
 -- the line of an event: its number, its texts, and the call that ended
 abbrev pub line_text : Line → Text
-line_text line = words (decimal line.number ∷ (texts_text line.texts ++ ending_text line.ended) ∷ [])
+line_text line = numbered_text line.number line.texts line.ended
 
 -- ---- an entry of the history
 -- an atomic, written as a call
