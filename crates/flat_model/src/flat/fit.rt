@@ -131,6 +131,7 @@ impl Flat {
         requires { start + n ≤ SPACE_PAGES }
         ensures { result ≡ has_room_everywhere self.now (places_of pid start n) }
     {
+        // Opens the machine: its invariant is what is known of the buckets.
         let _ = &self.buckets;
         self.has_room_for_each(pid, start, n)
     }
