@@ -30,10 +30,12 @@ abbrev pub after_load : Load → ClientState → ClientState
 after_load (Asks items) s = s
 after_load (Answers head reply if_taken) s = if same_client s.client head.client then after_heard (flight_under head.orig s) reply s else s
 
+-- a frame that was delivered, live or not: only a live one is heard
 abbrev pub after_delivered : Bool → Frame → ClientState → ClientState
 after_delivered true frame s = after_load frame.load s
 after_delivered false frame s = s
 
+-- the frame of a delivery, where there is one
 abbrev pub after_frame : ℕ → Option Frame → ClientState → ClientState
 after_frame t None s = s
 after_frame t (Some frame) s = after_delivered (is_live t frame) frame s

@@ -19,6 +19,7 @@ WaitsForNone calls still n k = (m : ℕ) (x : Call) → slice_get calls m ≡ So
 abbrev pub FencesLast : List Call → (ℕ → Bool) → Type 0
 FencesLast calls still = (f : ℕ) (x : Call) → slice_get calls f ≡ Some x → is_fence x ≡ true → still f ≡ false → (m : ℕ) → m < f → still m ≡ false
 
+-- the call at place n depends on none of the calls that still run
 abbrev pub DependsOnNone : List Call → (ℕ → Bool) → ℕ → Type 0
 DependsOnNone calls still n = (m : ℕ) → m < n → still m ≡ true → depends calls m n ≡ false
 

@@ -8,9 +8,11 @@ use Rattle.flat_model.specs.Properties.{Peeks}
 use Rattle.flat_model.specs.Run.{IsRun}
 use Rattle.account_laws.specs.Schedules.{IsRisingFrom, AreTyped}
 
+-- the history is a run of the flat machine, and each peek shows its memory
 pub record RunsAndShows (config : Config) (a : Account) : Type 0 where
   pub run : IsRun config.node a.history
   pub peeks : Peeks config a
 
+-- in the account of every schedule with typed events and rising lines it is so
 abbrev pub LawOfRuns : Type 0
 LawOfRuns = (config : Config) (events : List (ℕ × Event)) → IsRisingFrom 0 events → AreTyped events → RunsAndShows config (account config events)

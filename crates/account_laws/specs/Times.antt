@@ -40,6 +40,7 @@ pub record OfAge (a : Account) (f : Frame) (i : Carried) : Type 0 where
 abbrev pub IsGone : Account → ClientNo → Part → ℕ → Type 0
 IsGone a c p from = EachItem (λ f i. CarriesPart c p i → (t : ℕ) → from ≤ t → is_live t f ≡ false) a.frames
 
+-- from the text that gives a part up, no request frame that carries the part is live
 abbrev pub GoneFrom : Account → ℕ → Did → Type 0
 GoneFrom a t (did.GaveUp c p) = IsGone a c p t
 GoneFrom a t other = Unit {0}
@@ -48,10 +49,12 @@ GoneFrom a t other = Unit {0}
 abbrev pub IsSpent : Account → Entry → Type 0
 IsSpent a e = EachItem (λ f i. CarriesPart e.client e.part i → (t : ℕ) → is_live t f ≡ true → t < now a e.line + SPAN) a.frames
 
+-- each item of each frame was sent young, and is live only while its part is young enough
 pub record AreOfAge (a : Account) : Type 0 where
   pub ages : EachItem (OfAge a) a.frames
   pub gone : Each (λ (line : Line). Each (GoneFrom a line.moment) line.texts) a.lines
   pub spent : Each (IsSpent a) a.history
 
+-- in the account of every schedule the times of frames, parts and entries are so
 abbrev pub LawOfTimes : Type 0
 LawOfTimes = (config : Config) (events : List (ℕ × Event)) → IsRisingFrom 0 events → AreOfAge (account config events)

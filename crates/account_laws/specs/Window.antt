@@ -16,6 +16,7 @@ LatestTell config a f i =
     (t : ℕ) → clock a ≤ t → is_live t f ≡ true
     → record_of (latest config.node.retry (changing_of a.history)) i.item.head.client i.part ≡ record_of (changing_of a.history) i.item.head.client i.part
 
+-- in the account of every schedule the latest records tell of a live frame what all records tell
 abbrev pub LawOfWindow : Type 0
 LawOfWindow =
     (config : Config) (events : List (ℕ × Event)) → 1 ≤ config.node.retry → IsRisingFrom 0 events → AreTyped events
