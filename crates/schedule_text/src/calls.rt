@@ -1,0 +1,205 @@
+//! The calls of lines and scripts.
+
+ghost use Rattle.std.specs.Prelude.{◌≡◌};
+ghost use Rattle.flat_model.specs.Text.{words_in};
+ghost use Rattle.flat_model.specs.Grammar.{by_word, call_in_words};
+ghost use Rattle.schedule_text.specs.Calls.{call_after, call_words, form_of};
+ghost use Rattle.schedule_text.specs.Parts.{parts_left};
+ghost use Rattle.schedule_text.specs.Telling.{Tells};
+
+use crate::arguments::{
+    address_argument, four, none, number_argument, one, perm_argument, three, two,
+};
+use crate::fault::Stop;
+use crate::parts::cut;
+use crate::written::written;
+use cl_types::call::AtomicOp;
+use cl_types::schedule::{CallText, What};
+use std::alloc::Global;
+
+/// The greatest number of pages that a line may name.
+const LAST_U32: u64 = 4_294_967_295;
+
+/// The greatest number of bytes that a line may ask for.
+const MOST_LEN: u64 = 70_000;
+
+/// The word of a call.
+#[derive(Clone, Copy)]
+pub(crate) enum CallWord {
+    Alloc,
+    Free,
+    Read,
+    Write,
+    Lock,
+    Unlock,
+    Add,
+    Cas,
+    Offload,
+    Fence,
+}
+
+/// The call that a word names.
+pub(crate) fn call_word(word: &[u8]) -> Option<CallWord>
+    ensures { result ≡ by_word word.now call_words }
+{
+    if word == b"alloc".as_slice() {
+        Some(CallWord::Alloc)
+    } else if word == b"free".as_slice() {
+        Some(CallWord::Free)
+    } else if word == b"read".as_slice() {
+        Some(CallWord::Read)
+    } else if word == b"write".as_slice() {
+        Some(CallWord::Write)
+    } else if word == b"lock".as_slice() {
+        Some(CallWord::Lock)
+    } else if word == b"unlock".as_slice() {
+        Some(CallWord::Unlock)
+    } else if word == b"add".as_slice() {
+        Some(CallWord::Add)
+    } else if word == b"cas".as_slice() {
+        Some(CallWord::Cas)
+    } else if word == b"offload".as_slice() {
+        Some(CallWord::Offload)
+    } else if word == b"fence".as_slice() {
+        Some(CallWord::Fence)
+    } else {
+        None
+    }
+}
+
+#[tactic(auto, using(crate::proofs::ArgumentLemmas::arguments_fault))]
+fn alloc_call(before: Option<What>, rest: Option<&[u8]>) -> Result<CallText, Stop>
+    ensures { Tells result (call_after before (form_of CallWord.Alloc) (parts_left 32 rest.entry)) }
+{
+    let (pages, perm) = two(rest, before)?;
+    let pages = number_argument(0, LAST_U32, pages)? as u32;
+    let perm = perm_argument(perm)?;
+    Ok(CallText::Alloc { pages, perm })
+}
+
+#[tactic(auto, using(crate::proofs::ArgumentLemmas::arguments_fault))]
+fn free_call(before: Option<What>, rest: Option<&[u8]>) -> Result<CallText, Stop>
+    ensures { Tells result (call_after before (form_of CallWord.Free) (parts_left 32 rest.entry)) }
+{
+    let (addr, pages) = two(rest, before)?;
+    let addr = address_argument(addr)?;
+    let pages = number_argument(0, LAST_U32, pages)? as u32;
+    Ok(CallText::Free { addr, pages })
+}
+
+#[tactic(auto, using(crate::proofs::ArgumentLemmas::arguments_fault))]
+fn read_call(before: Option<What>, rest: Option<&[u8]>) -> Result<CallText, Stop>
+    ensures { Tells result (call_after before (form_of CallWord.Read) (parts_left 32 rest.entry)) }
+{
+    let (addr, len) = two(rest, before)?;
+    let addr = address_argument(addr)?;
+    let len = number_argument(0, MOST_LEN, len)? as u32;
+    Ok(CallText::Read { addr, len })
+}
+
+#[tactic(auto, using(crate::proofs::ArgumentLemmas::arguments_fault))]
+fn write_call(alloc: Global, before: Option<What>, rest: Option<&[u8]>) -> Result<CallText, Stop>
+    ensures { Tells result (call_after before (form_of CallWord.Write) (parts_left 32 rest.entry)) }
+{
+    let (addr, bytes) = two(rest, before)?;
+    let addr = address_argument(addr)?;
+    let bytes = written(alloc, bytes)?;
+    Ok(CallText::Write { addr, bytes })
+}
+
+#[tactic(auto, using(crate::proofs::ArgumentLemmas::arguments_fault))]
+fn lock_call(before: Option<What>, rest: Option<&[u8]>) -> Result<CallText, Stop>
+    ensures { Tells result (call_after before (form_of CallWord.Lock) (parts_left 32 rest.entry)) }
+{
+    let addr = address_argument(one(rest, before)?)?;
+    let op = AtomicOp::Lock;
+    Ok(CallText::Atomic { addr, op })
+}
+
+#[tactic(auto, using(crate::proofs::ArgumentLemmas::arguments_fault))]
+fn unlock_call(before: Option<What>, rest: Option<&[u8]>) -> Result<CallText, Stop>
+    ensures { Tells result (call_after before (form_of CallWord.Unlock) (parts_left 32 rest.entry)) }
+{
+    let addr = address_argument(one(rest, before)?)?;
+    let op = AtomicOp::Unlock;
+    Ok(CallText::Atomic { addr, op })
+}
+
+#[tactic(auto, using(crate::proofs::ArgumentLemmas::arguments_fault))]
+fn add_call(before: Option<What>, rest: Option<&[u8]>) -> Result<CallText, Stop>
+    ensures { Tells result (call_after before (form_of CallWord.Add) (parts_left 32 rest.entry)) }
+{
+    let (addr, n) = two(rest, before)?;
+    let addr = address_argument(addr)?;
+    let n = number_argument(0, u64::MAX, n)?;
+    let op = AtomicOp::Add { n };
+    Ok(CallText::Atomic { addr, op })
+}
+
+#[tactic(auto, using(crate::proofs::ArgumentLemmas::arguments_fault))]
+fn cas_call(before: Option<What>, rest: Option<&[u8]>) -> Result<CallText, Stop>
+    ensures { Tells result (call_after before (form_of CallWord.Cas) (parts_left 32 rest.entry)) }
+{
+    let (addr, expect, put) = three(rest, before)?;
+    let addr = address_argument(addr)?;
+    let expect = number_argument(0, u64::MAX, expect)?;
+    let put = number_argument(0, u64::MAX, put)?;
+    let op = AtomicOp::Cas { expect, put };
+    Ok(CallText::Atomic { addr, op })
+}
+
+#[tactic(auto, using(crate::proofs::ArgumentLemmas::arguments_fault))]
+fn offload_call(alloc: Global, before: Option<What>, rest: Option<&[u8]>) -> Result<CallText, Stop>
+    ensures { Tells result (call_after before (form_of CallWord.Offload) (parts_left 32 rest.entry)) }
+{
+    let (no, op, out, bytes) = four(rest, before)?;
+    let no = number_argument(0, 255, no)? as u8;
+    let op = number_argument(0, 255, op)? as u8;
+    let out = number_argument(0, MOST_LEN, out)? as u32;
+    let bytes = written(alloc, bytes)?;
+    Ok(CallText::Offload { no, op, out, bytes })
+}
+
+#[tactic(auto, using(crate::proofs::ArgumentLemmas::arguments_fault))]
+fn fence_call(before: Option<What>, rest: Option<&[u8]>) -> Result<CallText, Stop>
+    ensures { Tells result (call_after before (form_of CallWord.Fence) (parts_left 32 rest.entry)) }
+{
+    none(rest, before)?;
+    Ok(CallText::Fence)
+}
+
+/// The call of a word, with the words behind it. `before` is what is wrong with a word in front, and is told where the
+/// number of words is right.
+pub(crate) fn call_by_word(
+    alloc: Global,
+    word: CallWord,
+    before: Option<What>,
+    rest: Option<&[u8]>,
+) -> Result<CallText, Stop>
+    ensures { Tells result (call_after before (form_of word) (parts_left 32 rest.entry)) }
+{
+    match word {
+        CallWord::Alloc => alloc_call(before, rest),
+        CallWord::Free => free_call(before, rest),
+        CallWord::Read => read_call(before, rest),
+        CallWord::Write => write_call(alloc, before, rest),
+        CallWord::Lock => lock_call(before, rest),
+        CallWord::Unlock => unlock_call(before, rest),
+        CallWord::Add => add_call(before, rest),
+        CallWord::Cas => cas_call(before, rest),
+        CallWord::Offload => offload_call(alloc, before, rest),
+        CallWord::Fence => fence_call(before, rest),
+    }
+}
+
+/// The call of a script's line.
+#[tactic(auto, using(crate::proofs::CallLemmas::call_forms_by_word))]
+pub(crate) fn call_in_line(alloc: Global, line: &[u8]) -> Result<CallText, Stop>
+    ensures { Tells result (call_in_words (words_in line.now)) }
+{
+    let (word, rest) = cut(line, b' ');
+    match call_word(word) {
+        None => Err(Stop::Bad(What::UnknownWord)),
+        Some(word) => call_by_word(alloc, word, None, rest),
+    }
+}
