@@ -32,3 +32,4 @@ pub mod Settled
 pub mod OrderKept
 pub mod Window
 pub mod WindowKept
+pub mod StandsKept

@@ -77,7 +77,7 @@ distinct_with_entry e (x ∷ h) d k = go (is_before e.line e.position x) (distin
 abbrev is_of : ClientNo → Part → Entry → Bool
 is_of c p e = same_client c e.client && same_part p e.part
 
-found_has : (c : ClientNo) (p : Part) (es : List Entry) (e : Entry) → record_of es c p ≡ Some e → HasEntry es c p e.reply
+pub found_has : (c : ClientNo) (p : Part) (es : List Entry) (e : Entry) → record_of es c p ≡ Some e → HasEntry es c p e.reply
 found_has c p [] e h = grind arith
 found_has c p (x ∷ es) e h = go (is_of c p x) refl (found_has c p es e) h
   where
@@ -86,7 +86,7 @@ found_has c p (x ∷ es) e h = go (is_of c p x) refl (found_has c p es e) h
         inl (record { client = sym s.0; part = sym s.1; reply_is = ap (λ (z : Entry). z.reply) same })
     go false t rec h = inr (rec h)
 
-has_filtered : (test : Entry → Bool) (es : List Entry) (c : ClientNo) (p : Part) (reply : Reply) → HasEntry (filter test es) c p reply → HasEntry es c p reply
+pub has_filtered : (test : Entry → Bool) (es : List Entry) (c : ClientNo) (p : Part) (reply : Reply) → HasEntry (filter test es) c p reply → HasEntry es c p reply
 has_filtered test [] c p reply h = h
 has_filtered test (x ∷ es) c p reply h = go (test x) (has_filtered test es c p reply) h
   where

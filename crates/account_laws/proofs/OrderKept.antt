@@ -99,7 +99,7 @@ end_ok a l c p x t k e =
     e
 
 -- ---- a changing part with no entry, whose frame is live, isn't over
-has_none : (e : Entry) (h : List Entry) (c : ClientNo) (p : Part) (reply : Reply) → e.client ≡ c → e.part ≡ p → Each (Differ e) h → HasEntry h c p reply → ⊥
+pub has_none : (e : Entry) (h : List Entry) (c : ClientNo) (p : Part) (reply : Reply) → e.client ≡ c → e.part ≡ p → Each (Differ e) h → HasEntry h c p reply → ⊥
 has_none e [] c p reply j k d m = m
 has_none e (x ∷ h) c p reply j k d (inl m) = d.0 (j ∙ sym m.client) (k ∙ sym m.part)
 has_none e (x ∷ h) c p reply j k d (inr m) = has_none e h c p reply j k d.1 m

@@ -4,8 +4,13 @@ use Rattle.std.specs.Prelude.{ℕ, List}
 use Rattle.cl_types.specs.declared.config.Config.{Config}
 use Rattle.cl_types.specs.declared.schedule.Event.{Event}
 use Rattle.flat_model.specs.Events.{account}
-use Rattle.flat_model.specs.Properties.{Once, Ordered}
+use Rattle.flat_model.specs.Properties.{Stands, Once, Ordered}
 use Rattle.account_laws.specs.Schedules.{IsRisingFrom, AreTyped}
+
+-- Each entry stands at a delivery of a live frame that carries its part: for a changing part the first at which the node
+-- was not busy, for a reading part the one that made the reply which the client took.
+abbrev pub LawOfStands : Type 0
+LawOfStands = (config : Config) (events : List (ℕ × Event)) → IsRisingFrom 0 events → AreTyped events → Stands (account config events)
 
 -- each entry is of a part of an issued call, no part has two, and each answered call has its answer from its parts' entries
 abbrev pub LawOfParts : Type 0

@@ -1,6 +1,6 @@
 //! Laws of the account of every schedule.
 
-ghost use Rattle.account_laws.specs.Histories.{LawOfParts, LawOfOrder};
+ghost use Rattle.account_laws.specs.Histories.{LawOfStands, LawOfParts, LawOfOrder};
 ghost use Rattle.account_laws.specs.Runs.{LawOfRuns};
 ghost use Rattle.account_laws.specs.Times.{LawOfTimes};
 ghost use Rattle.account_laws.specs.Window.{LawOfWindow, OneAccount};
@@ -16,6 +16,12 @@ pub fn law_of_times()
 /// run on its line.
 pub fn law_of_runs()
     ensures { LawOfRuns }
+{}
+
+/// Each entry stands at a delivery of a live frame that carries its part: for a changing part the first at which the
+/// node was not busy, for a reading part the one that made the reply which the client took.
+pub fn law_of_stands()
+    ensures { LawOfStands }
 {}
 
 /// Each entry of the history is of a part of an issued call, with the part's request, and no part has two. Each call
