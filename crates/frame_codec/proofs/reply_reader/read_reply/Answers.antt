@@ -1,8 +1,8 @@
 -- A reply is judged by its header and then by its body.
-use Rattle.std.proofs.Common.{◌≡◌, ◌∙◌, Ok, None, drop, take, length, ◌-◌, zero-add, refl, sym, arith}
+use Rattle.std.proofs.Common.{◌∙◌, Ok, refl, arith}
 use Rattle.std.proofs.lemmas.Result.{err_from_is_err_and, IfOk-from_err}
 use Rattle.cl_types.specs.Requests.{reply_of}
-use Rattle.flat_model.specs.Frames.{reply_checks, reply_fault}
+use Rattle.flat_model.specs.Frames.{reply_checks}
 use Rattle.frame_codec.proofs.ReaderLemmas.{behind_header, fault_in-header, fault_in-body, reply_read, reply_spelled, reply_exactly}
 use Rattle.frame_codec.proofs.reply_reader.read_reply.Goals as goal
 

@@ -1,5 +1,5 @@
 -- The bytes stand behind the header and the status already.
-use Rattle.std.proofs.Common.{◌+◌, ◌≤◌, arith}
+use Rattle.std.proofs.Common.{◌+◌, arith}
 use Rattle.frame_codec.proofs.WriterLemmas.{carried_len, got_kept, got_written}
 use Rattle.frame_codec.proofs.reply_writer.write_got.Goals as goal
 

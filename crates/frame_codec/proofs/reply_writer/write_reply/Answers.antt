@@ -1,5 +1,5 @@
 -- The body stands behind the header.
-use Rattle.std.proofs.Common.{arith, ◌≤◌, ◌+◌, ◌∷◌}
+use Rattle.std.proofs.Common.{arith, ◌+◌, ◌∷◌}
 use Rattle.cl_types.specs.Requests.{reply_of}
 use Rattle.flat_model.specs.Frames.{status_in, reply_value}
 use Rattle.frame_codec.proofs.WriterLemmas.{frame_written}

@@ -1,8 +1,8 @@
 -- A request is judged by its header and then by its body.
-use Rattle.std.proofs.Common.{◌≡◌, ◌∙◌, Ok, None, drop, take, length, ◌-◌, zero-add, refl, sym, arith}
+use Rattle.std.proofs.Common.{◌∙◌, Ok, zero-add, sym, arith}
 use Rattle.std.proofs.lemmas.Result.{err_from_is_err_and, IfOk-from_err}
 use Rattle.cl_types.specs.Requests.{request_of}
-use Rattle.flat_model.specs.Frames.{request_checks, request_fault}
+use Rattle.flat_model.specs.Frames.{request_checks}
 use Rattle.frame_codec.proofs.ReaderLemmas.{behind_header, fault_in-header, fault_in-body, request_read, request_spelled, request_exactly}
 use Rattle.frame_codec.proofs.request_reader.read_request.Goals as goal
 

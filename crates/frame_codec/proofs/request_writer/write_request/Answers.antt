@@ -1,5 +1,5 @@
 -- The body stands behind the header.
-use Rattle.std.proofs.Common.{arith, ◌≤◌}
+use Rattle.std.proofs.Common.{arith}
 use Rattle.cl_types.specs.Requests.{request_of}
 use Rattle.flat_model.specs.Frames.{request_body}
 use Rattle.frame_codec.proofs.WriterLemmas.{frame_written}
