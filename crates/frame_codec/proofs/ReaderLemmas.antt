@@ -22,7 +22,7 @@ use Rattle.flat_model.proofs.ReplyFrameLemmas.{replies_are_read_again, bytes_spe
 use Rattle.flat_model.proofs.RequestFrameLemmas.{requests_are_read_again, bytes_spell_one_request}
 use Rattle.flat_model.proofs.FaultlessRequestLemmas.{faultless_requests_are_spelled}
 use Rattle.flat_model.proofs.FaultlessReplyLemmas.{faultless_replies_are_spelled}
-use Rattle.frame_codec.specs.Headers.{IsHeaderOf}
+use Rattle.frame_codec.specs.Parts.{IsHeaderOf}
 use Rattle.frame_codec.specs.Reading.{GivesSpelledRequest, GivesSpelledReply}
 use Rattle.frame_codec.specs.declared.views.RequestView.{RequestView}
 use Rattle.frame_codec.specs.declared.views.ReplyView.{ReplyView}

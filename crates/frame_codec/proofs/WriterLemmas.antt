@@ -12,7 +12,7 @@ use Rattle.flat_model.proofs.FrameLemmas.{length-frame}
 use Rattle.flat_model.proofs.RequestFrameLemmas.{requests_are_read_again}
 use Rattle.flat_model.proofs.ReplyFrameLemmas.{replies_are_read_again}
 use Rattle.frame_codec.specs.Laws.{WrittenRequestsAreReadAgain, WrittenRepliesAreReadAgain}
-use Rattle.frame_codec.specs.Headers.{header_of}
+use Rattle.frame_codec.specs.Parts.{header_of}
 use Rattle.frame_codec.specs.Writing.{IsWritten, may_carry}
 use Rattle.frame_codec.proofs.PlaceLemmas.{put_mid-with_bytes}
 use borrow.Rule.Slice.PartMut.{put_mid}

@@ -1,4 +1,4 @@
-pub mod Headers
 pub mod Reading
 pub mod Writing
 pub mod Laws
+pub mod Parts

@@ -1,11 +1,11 @@
 //! The 26 bytes in front of a body: the start of a frame, its head, and the number of its body's bytes.
 
-ghost use Rattle.std.specs.Prelude.{◌≡◌, ◌+◌, ◌≤◌, ◌++◌, drop, length, IfOk, MatchOption, false};
+ghost use Rattle.std.specs.Prelude.{◌≡◌, ◌+◌, ◌≤◌, ◌++◌, drop, length, IfOk, IfSome, is_some};
 ghost use Rattle.std.specs.Result.{result_err};
 ghost use Rattle.cl_types.specs.Config.{is_within};
 ghost use Rattle.flat_model.specs.Faults.{first_fault};
-ghost use Rattle.flat_model.specs.Frames.{header_checks, kind_number};
-ghost use Rattle.frame_codec.specs.Headers.{IsHeaderOf, header_of};
+ghost use Rattle.flat_model.specs.Frames.{head_in, header_checks, kind_number};
+ghost use Rattle.frame_codec.specs.Parts.{IsHeaderOf, head_checks, header_of};
 
 use crate::places::{put_u16, put_u64, u16_at, u64_at};
 use cl_types::call::Kind;
@@ -24,7 +24,8 @@ pub struct Header {
 
 /// The kind of this number. `None` comes exactly where the number is none from 1 to 6.
 fn try_kind(number: u8) -> Option<Kind>
-    ensures { MatchOption result (is_within 1 6 number ≡ false) (λ kind. kind_number kind ≡ number) }
+    ensures some { is_some result ≡ is_within 1 6 number }
+    ensures value { IfSome result (λ kind. kind_number kind ≡ number) }
 {
     match number {
         1 => Some(Kind::Alloc),
@@ -35,6 +36,32 @@ fn try_kind(number: u8) -> Option<Kind>
         6 => Some(Kind::Offload),
         _ => None,
     }
+}
+
+/// Reads the head in a header: whose frame it is, and its ids.
+fn read_head(bytes: &[u8]) -> Result<Head, BadFrame>
+    requires { 26 ≤ length bytes.now }
+    ensures fault { result_err result ≡ first_fault (head_checks bytes.now) }
+    ensures value { IfOk result (λ head. head ≡ head_in bytes.now) }
+{
+    let client = ClientNo(u16_at(bytes, 4));
+    let Some(pid) = try_pid(u16_at(bytes, 6)) else {
+        return Err(BadFrame::Field(FieldName::Pid));
+    };
+    let id = u64_at(bytes, 8);
+    if id == 0 {
+        return Err(BadFrame::Field(FieldName::Id));
+    }
+    let orig = u64_at(bytes, 16);
+    if orig == 0 || orig > id {
+        return Err(BadFrame::Field(FieldName::Orig));
+    }
+    Ok(Head {
+        client,
+        pid,
+        id,
+        orig,
+    })
 }
 
 /// Reads a header, of a frame with a number of its kind from `base + 1` to `base + 6`.
@@ -66,27 +93,8 @@ pub fn read_header(base: u8, bytes: &[u8]) -> Result<Header, BadFrame>
     if need < have {
         return Err(BadFrame::Long { have, need });
     }
-    let Some(pid) = try_pid(u16_at(bytes, 6)) else {
-        return Err(BadFrame::Field(FieldName::Pid));
-    };
-    let id = u64_at(bytes, 8);
-    if id == 0 {
-        return Err(BadFrame::Field(FieldName::Id));
-    }
-    let orig = u64_at(bytes, 16);
-    if orig == 0 || orig > id {
-        return Err(BadFrame::Field(FieldName::Orig));
-    }
-    let client = ClientNo(u16_at(bytes, 4));
-    Ok(Header {
-        kind,
-        head: Head {
-            client,
-            pid,
-            id,
-            orig,
-        },
-    })
+    let head = read_head(bytes)?;
+    Ok(Header { kind, head })
 }
 
 /// The number of the kind in a request's frame.

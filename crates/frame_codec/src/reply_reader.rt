@@ -1,6 +1,6 @@
 //! Reads replies: the status first, and behind a status of 0 the value of the request's kind.
 
-ghost use Rattle.std.specs.Prelude.{◌≡◌, ◌==◌, ◌+◌, ◌≤◌, [], ◌∷◌, drop, length, slice_index, IfOk, MatchOption, false, true};
+ghost use Rattle.std.specs.Prelude.{◌≡◌, ◌==◌, ◌+◌, ◌≤◌, [], ◌∷◌, drop, length, slice_index, IfOk, IfSome, is_some};
 ghost use Rattle.std.specs.Result.{result_err};
 ghost use Rattle.cl_types.specs.declared.reply.Reply.TheVariants as owned;
 ghost use Rattle.cl_types.specs.Config.{is_within};
@@ -21,7 +21,8 @@ use cl_types::reply::{Refusal, ReplyRef};
 
 /// The refusal of this status. `None` comes exactly where the status is none from 1 to 8.
 fn try_refusal(status: u8) -> Option<Refusal>
-    ensures { MatchOption result (is_within 1 8 status ≡ false) (λ refusal. (is_within 1 8 status ≡ true) × (refusal ≡ refusal_in status)) }
+    ensures some { is_some result ≡ is_within 1 8 status }
+    ensures value { IfSome result (λ refusal. refusal ≡ refusal_in status) }
 {
     match status {
         1 => Some(Refusal::NoMapping),
@@ -66,7 +67,8 @@ fn read_nothing(body: &[u8]) -> Result<ReplyRef<'_>, BadFrame>
 /// Reads the bytes that answer a Read or an Offload, where the body has `least` bytes or more.
 fn read_got(least: usize, body: &[u8]) -> Result<ReplyRef<'_>, BadFrame>
     requires { 1 ≤ least }
-    ensures fault { result_err result ≡ first_fault (field (is_within least (1 + PART_BYTES) (length body.now)) FieldName.Body ∷ []) }
+    ensures fault { let good = is_within least (1 + PART_BYTES) (length body.now) in
+        result_err result ≡ first_fault (field good FieldName.Body ∷ []) }
     ensures value { IfOk result (λ reply. reply_of reply ≡ owned.Got (drop 1 body.now)) }
 {
     if body.len() < least || body.len() > 1 + PART_BYTES as usize {

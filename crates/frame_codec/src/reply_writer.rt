@@ -1,10 +1,11 @@
 //! Writes replies: the body first, since its length stands in the header.
 
-ghost use Rattle.std.specs.Prelude.{◌≡◌, ◌+◌, ◌≤◌, ◌++◌, ◌∷◌, drop, length, IsTrue};
+ghost use Rattle.std.specs.Prelude.{◌≡◌, ◌+◌, ◌≤◌, ◌++◌, drop, length, IsTrue};
 ghost use Rattle.cl_types.specs.Bytes.{bytes_at};
 ghost use Rattle.cl_types.specs.Requests.{reply_of};
 ghost use Rattle.cl_types.specs.declared.reply.Reply.TheVariants as owned;
-ghost use Rattle.flat_model.specs.Frames.{IsHead, is_reply_of, kind_number, reply_frame, reply_value, status_in, status_of};
+ghost use Rattle.flat_model.specs.Frames.{IsHead, is_reply_of, kind_number, reply_frame, reply_value, status_of};
+ghost use Rattle.frame_codec.specs.Parts.{reply_body};
 ghost use Rattle.frame_codec.specs.Writing.{IsWritten, may_carry};
 
 use crate::headers::{HEADER_BYTES, number_of, write_header};
@@ -33,9 +34,9 @@ fn status_of(refusal: Refusal) -> u8
 fn write_body(body: &ReplyRef, out: &mut [u8]) -> usize
     requires room { 1025 ≤ length out.old }
     requires short { length (reply_value (reply_of body.now)) ≤ 1024 }
-    ensures len { result ≡ length (status_in (reply_of body.now) ∷ reply_value (reply_of body.now)) }
+    ensures len { result ≡ length (reply_body (reply_of body.now)) }
     ensures short { result ≤ 1025 }
-    ensures written { out.new ≡ (status_in (reply_of body.now) ∷ reply_value (reply_of body.now)) ++ drop result out.old }
+    ensures written { out.new ≡ reply_body (reply_of body.now) ++ drop result out.old }
 {
     out[0] = 0;
     match *body {
@@ -81,7 +82,8 @@ pub fn write_got(head: &Head, kind: Kind, len: usize, out: &mut [u8]) -> usize
     requires len { IsTrue (may_carry kind len) }
     ensures len { result ≡ 27 + len }
     ensures short { result ≤ 1051 }
-    ensures written { IsWritten (reply_frame head.now kind (owned.Got (bytes_at 27 len out.old))) result out.old out.new }
+    ensures written { let got = owned.Got (bytes_at 27 len out.old) in
+        IsWritten (reply_frame head.now kind got) result out.old out.new }
     ensures kept { drop 27 out.new ≡ drop 27 out.old }
 {
     out[HEADER_BYTES] = 0;

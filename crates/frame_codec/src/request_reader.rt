@@ -1,6 +1,6 @@
 //! Reads requests: the body of each kind by its own function, its checks in the order in which they are told.
 
-ghost use Rattle.std.specs.Prelude.{◌≡◌, ◌==◌, ◌||◌, length, slice_index, IfOk, IsTrue, MatchOption, false, true};
+ghost use Rattle.std.specs.Prelude.{◌≡◌, ◌==◌, ◌||◌, length, slice_index, IfOk, IsTrue, IfSome, is_some};
 ghost use Rattle.std.specs.Result.{result_err};
 ghost use Rattle.cl_types.specs.Config.{is_within};
 ghost use Rattle.cl_types.specs.Requests.{request_of};
@@ -20,7 +20,8 @@ use cl_types::request::RequestRef;
 
 /// The permission of this number. `None` comes exactly where the number is none from 1 to 3.
 fn try_perm(number: u8) -> Option<Perm>
-    ensures { MatchOption result (is_within 1 3 number ≡ false) (λ perm. (is_within 1 3 number ≡ true) × (perm ≡ perm_in number)) }
+    ensures some { is_some result ≡ is_within 1 3 number }
+    ensures value { IfSome result (λ perm. perm ≡ perm_in number) }
 {
     match number {
         1 => Some(Perm::ReadOnly),
@@ -116,11 +117,11 @@ fn read_write(body: &[u8]) -> Result<RequestRef<'_>, BadFrame>
     })
 }
 
-/// Reads the operation of an Atomic, from a body of one of the three lengths. `None` comes exactly where it is none of
-/// that length.
+/// Reads the operation of an Atomic. `None` comes exactly where no operation has this number in a body of this length.
 fn read_op(body: &[u8]) -> Option<AtomicOp>
     requires { IsTrue (length body.now == 5 || length body.now == 13 || length body.now == 21) }
-    ensures { MatchOption result (is_op (length body.now) (slice_index body.now 4) ≡ false) (λ op. (is_op (length body.now) (slice_index body.now 4) ≡ true) × (op ≡ op_in body.now)) }
+    ensures some { is_some result ≡ is_op (length body.now) (slice_index body.now 4) }
+    ensures value { IfSome result (λ op. op ≡ op_in body.now) }
 {
     match (body.len(), body[4]) {
         (5, 1) => Some(AtomicOp::Lock),
