@@ -27,13 +27,16 @@ byte_at-below k high low =
 bytes-below : (k high low : ℕ) → bytes_high_first k (high * 256 ^ k + low) ≡ bytes_high_first k low
 bytes-below zero high low = refl
 bytes-below (suc k) high low =
-    let apart : high * 256 ^ suc k + low ≡ high * 256 * 256 ^ k + low = ap (λ (m : ℕ). m + low) (ap (λ (m : ℕ). high * m) (pow-succ' 256 k) ∙ sym (mul_assoc high 256 (256 ^ k))) in
-    rw (apart, byte_at-below k high low, bytes-below k (high * 256) low) refl
+    let apart : high * 256 ^ suc k ≡ high * 256 * 256 ^ k =
+    ap (λ (m : ℕ). high * m) (pow-succ' 256 k) ∙ sym (mul_assoc high 256 (256 ^ k)) in
+    rw (ap (λ (m : ℕ). m + low) apart, byte_at-below k high low, bytes-below k (high * 256) low) refl
 
 -- the highest byte
 byte_at-top : (n first low : ℕ) → first < 256 → low < 256 ^ n → byte_at n (first * 256 ^ n + low) ≡ first
 byte_at-top n first low small_first small_low =
-    byte_at-power n (first * 256 ^ n + low) ∙ ap (λ (m : ℕ). m % 256) (div-mul-add first (256 ^ n) low small_low) ∙ mod-eq_of_lt small_first
+    byte_at-power n (first * 256 ^ n + low)
+    ∙ ap (λ (m : ℕ). m % 256) (div-mul-add first (256 ^ n) low small_low)
+    ∙ mod-eq_of_lt small_first
 
 pub bytes_are_those_of_their_number : BytesAreThoseOfTheirNumber
 bytes_are_those_of_their_number [] good = refl
@@ -41,6 +44,7 @@ bytes_are_those_of_their_number (first ∷ rest) good =
     let both = and_parts _ _ good in
     let n : ℕ = length rest in
     let low : ℕ = big_from 0 n rest in
-    let read : big_number (length (first ∷ rest)) (first ∷ rest) ≡ first * 256 ^ n + low = ap (λ (m : ℕ). first * 256 ^ n + m) (big_from-cons 0 n first rest) in
+    let read : big_number (length (first ∷ rest)) (first ∷ rest) ≡ first * 256 ^ n + low =
+    ap (λ (m : ℕ). first * 256 ^ n + m) (big_from-cons 0 n first rest) in
     let top = byte_at-top n first low (ltb-true first 256 both.0) (big_from-lt 0 n rest (small rest both.1)) in
     rw (read, top, bytes-below n first low, bytes_are_those_of_their_number rest both.1) refl

@@ -7,7 +7,8 @@ use borrow.Rule.Slice.PartMut.{put_mid}
 
 -- bytes that are written at the start of what is from a place on
 pub put_mid-with_bytes : (at : ℕ) (bytes old part : List ℕ) → at + length bytes ≤ length old
-    → part ≡ bytes ++ drop (length bytes) (take (length old - at) (drop at old)) → put_mid at (length old - at) old part ≡ with_bytes at bytes old
+    → part ≡ bytes ++ drop (length bytes) (take (length old - at) (drop at old))
+    → put_mid at (length old - at) old part ≡ with_bytes at bytes old
 put_mid-with_bytes at bytes old part within is = rw is (grind (arith, common_steps))
 
 -- bytes that begin with these, and go on as others do from there
@@ -15,11 +16,13 @@ pub record BeginsWith (front start now : List ℕ) : Type 0 where
   pub is : now ≡ front ++ drop (length front) start
 
 -- bytes that are written right behind what they began with
-pub written_behind : {front start old new : List ℕ} (at : ℕ) (bytes : List ℕ) → BeginsWith front start old → length front ≡ at
-    → new ≡ with_bytes at bytes old → BeginsWith (front ++ bytes) start new
+pub written_behind : {front start old new : List ℕ} (at : ℕ) (bytes : List ℕ)
+    → BeginsWith front start old → length front ≡ at → new ≡ with_bytes at bytes old → BeginsWith (front ++ bytes) start new
 written_behind {front = front} {start = start} {old = old} at bytes begins long written =
     let tail : List ℕ = drop (length front) start in
     let kept : take (length front) (front ++ tail) ≡ front = take_at front tail _ refl in
     let behind : drop (length front + length bytes) (front ++ tail) ≡ drop (length front + length bytes) start =
-    sym (drop-drop (length bytes) (length front) (front ++ tail)) ∙ ap (drop (length bytes)) (drop_at front tail _ refl) ∙ drop-drop (length bytes) (length front) start in
+    sym (drop-drop (length bytes) (length front) (front ++ tail))
+    ∙ ap (drop (length bytes)) (drop_at front tail _ refl)
+    ∙ drop-drop (length bytes) (length front) start in
     record { is = rw (written, begins.is, ← long, kept, behind, length-append front bytes) refl }

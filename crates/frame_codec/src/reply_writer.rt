@@ -88,5 +88,5 @@ pub fn write_got(head: &Head, kind: Kind, len: usize, out: &mut [u8]) -> usize
 {
     out[HEADER_BYTES] = 0;
     write_header(128 + number_of(kind), head, 1 + len as u16, out);
-    HEADER_BYTES + 1 + len
+    HEADER_BYTES + (1 + len)
 }
