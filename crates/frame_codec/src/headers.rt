@@ -1,4 +1,4 @@
-//! The 26 bytes in front of a body: the start of a frame, its head, and the number of its body's bytes.
+//! The 26 bytes in front of a body: the start of a frame, its head, and the length of its body.
 
 ghost use Rattle.std.specs.Prelude.{◌≡◌, ◌+◌, ◌≤◌, ◌++◌, drop, length, IfOk, IfSome, is_some};
 ghost use Rattle.std.specs.Result.{result_err};

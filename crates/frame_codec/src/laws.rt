@@ -7,12 +7,14 @@ pub fn bytes_are_those_of_their_number()
     ensures { BytesAreThoseOfTheirNumber }
 {}
 
-/// A node that reads what was written as a request finds no fault, the same head and the same request.
+/// A node that reads what was written as a request finds no fault, the same head and the same
+/// request.
 pub fn written_requests_are_read_again()
     ensures { WrittenRequestsAreReadAgain }
 {}
 
-/// A client that reads what was written as a reply finds no fault, the same head, the same kind and the same reply.
+/// A client that reads what was written as a reply finds no fault, the same head, the same kind and
+/// the same reply.
 pub fn written_replies_are_read_again()
     ensures { WrittenRepliesAreReadAgain }
 {}

@@ -1,10 +1,14 @@
-//! Frames, read where they lie and written in place. `read_request` and `read_reply` judge bytes that come from
-//! outside; `write_request`, `write_reply` and `write_got` spell a value at the start of a buffer. No call takes memory.
+//! Frames, read where they lie and written in place.
 //!
-//! A contract sees bytes as a list, and the view of a frame as its head and the request or reply that it borrows
-//! (`request_of`, `reply_of`). Which bytes spell which value, and which fault is told of others, stands in
-//! `flat_model`. That a call takes one pass, and copies no byte but those of a payload that is written, can be seen in
-//! the code, and no clause says it.
+//! `read_request` and `read_reply` judge bytes that come from outside. `write_request`,
+//! `write_reply` and `write_got` spell a value at the start of a buffer. No call takes memory.
+//!
+//! A contract sees bytes as a list, and the view of a frame as its head and the request or reply
+//! that it borrows (`request_of`, `reply_of`). Which bytes spell which value, and which fault is
+//! told of others, stands in `flat_model`.
+//!
+//! That a call takes one pass, and that no byte is copied but those of a payload that is written,
+//! can be seen in the code, and no clause says it.
 #![tactic(auto)]
 
 mod headers;

@@ -123,7 +123,8 @@ fn read_body(kind: Kind, body: &[u8]) -> Result<ReplyRef<'_>, BadFrame>
     Ok(ReplyRef::Refused(refusal))
 }
 
-/// Reads a reply. `Ok` comes exactly where the bytes spell one, and else the first fault of the bytes is told.
+/// Reads a reply. `Ok` comes exactly where the bytes spell one, and else the first fault of the
+/// bytes is told.
 pub fn read_reply(bytes: &[u8]) -> Result<ReplyView<'_>, BadFrame>
     ensures exactly { GivesSpelledReply bytes.now result }
     ensures spelled { IfOk result (λ view. SpellsReply bytes.now view.head view.kind (reply_of view.body)) }

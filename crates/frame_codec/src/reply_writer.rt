@@ -60,8 +60,8 @@ fn write_body(body: &ReplyRef, out: &mut [u8]) -> usize
     }
 }
 
-/// Writes a reply to a request of this kind at the start of `out`, and tells how many bytes it has. The rest of `out`
-/// stays.
+/// Writes a reply to a request of this kind at the start of `out`, and tells how many bytes it has.
+/// The rest of `out` stays.
 pub fn write_reply(head: &Head, kind: Kind, body: &ReplyRef, out: &mut [u8]) -> usize
     requires room { 1200 ≤ length out.old }
     requires head { IsHead head.now }
@@ -74,8 +74,8 @@ pub fn write_reply(head: &Head, kind: Kind, body: &ReplyRef, out: &mut [u8]) -> 
     HEADER_BYTES + len
 }
 
-/// Writes the reply to a Read or an Offload whose `len` bytes stand in `out` already, from place 27 on, and tells how
-/// many bytes it has. All bytes from place 27 on stay.
+/// Writes the reply to a Read or an Offload whose `len` bytes stand in `out` already, from place 27
+/// on, and tells how many bytes it has. All bytes from place 27 on stay.
 pub fn write_got(head: &Head, kind: Kind, len: usize, out: &mut [u8]) -> usize
     requires room { 1200 ≤ length out.old }
     requires head { IsHead head.now }

@@ -1,4 +1,5 @@
-//! Reads requests: the body of each kind by its own function, its checks in the order in which they are told.
+//! Reads requests: the body of each kind by its own function, which judges in the order in which
+//! faults are told.
 
 ghost use Rattle.std.specs.Prelude.{◌≡◌, ◌==◌, ◌||◌, length, slice_index, IfOk, IsTrue, IfSome, is_some};
 ghost use Rattle.std.specs.Result.{result_err};
@@ -117,7 +118,8 @@ fn read_write(body: &[u8]) -> Result<RequestRef<'_>, BadFrame>
     })
 }
 
-/// Reads the operation of an Atomic. `None` comes exactly where no operation has this number in a body of this length.
+/// Reads the operation of an Atomic. `None` comes exactly where no operation has this number in a
+/// body of this length.
 fn read_op(body: &[u8]) -> Option<AtomicOp>
     requires { IsTrue (length body.now == 5 || length body.now == 13 || length body.now == 21) }
     ensures some { is_some result ≡ is_op (length body.now) (slice_index body.now 4) }
@@ -191,7 +193,8 @@ fn read_body(kind: Kind, body: &[u8]) -> Result<RequestRef<'_>, BadFrame>
     }
 }
 
-/// Reads a request. `Ok` comes exactly where the bytes spell one, and else the first fault of the bytes is told.
+/// Reads a request. `Ok` comes exactly where the bytes spell one, and else the first fault of the
+/// bytes is told.
 pub fn read_request(bytes: &[u8]) -> Result<RequestView<'_>, BadFrame>
     ensures exactly { GivesSpelledRequest bytes.now result }
     ensures spelled { IfOk result (λ view. SpellsRequest bytes.now view.head (request_of view.body)) }

@@ -130,7 +130,8 @@ fn write_body(body: &RequestRef, out: &mut [u8]) -> usize
     }
 }
 
-/// Writes a request at the start of `out`, and tells how many bytes it has. The rest of `out` stays.
+/// Writes a request at the start of `out`, and tells how many bytes it has. The rest of `out`
+/// stays.
 pub fn write_request(head: &Head, body: &RequestRef, out: &mut [u8]) -> usize
     requires room { 1200 ≤ length out.old }
     requires head { IsHead head.now }

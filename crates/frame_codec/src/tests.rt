@@ -69,7 +69,13 @@ fn requests_are_read_as_the_vectors_say(rt: HostRuntime) {
         )
     );
     assert!(rt;
-        matches!(request_in(WRITE), Some(RequestRef::Write { addr: Addr(0x1000), bytes }) if bytes == b"abc".as_slice())
+        matches!(
+            request_in(WRITE),
+            Some(RequestRef::Write {
+                addr: Addr(0x1000),
+                bytes: b"abc"
+            })
+        )
     );
     assert!(rt;
         matches!(
@@ -161,7 +167,10 @@ fn bytes_that_stand_in_a_buffer_are_written_as_a_reply(rt: HostRuntime) {
     );
     assert_eq!(rt; out[31], b'd');
     assert!(rt;
-        matches!(reply_in(&out[..len]), Some((Kind::Read, ReplyRef::Got(bytes))) if bytes == b"abc\0".as_slice())
+        matches!(
+            reply_in(&out[..len]),
+            Some((Kind::Read, ReplyRef::Got(b"abc\0")))
+        )
     );
 }
 
