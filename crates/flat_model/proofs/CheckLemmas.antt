@@ -47,7 +47,7 @@ module _ (s : FlatState) (outcome : Outcome) (reply : Reply) where
 pub opened_within : (s : FlatState) (pid : ℕ) (addr : Addr) (may : Perm → Bool) (i : ℕ) → Opens s pid addr may (Ok i) → i < length s.map
 opened_within s pid addr may i opens = slice_get_within s.map i ((pid, page_of addr), opens.0) opens.1
 
-put_is_puts : (s : FlatState) (pid : ℕ) (addr : Addr) (i : ℕ) (page : Page) (bytes : List ℕ) (reply : Reply) → slice_get s.map i ≡ Some ((pid, page_of addr), page)
+pub put_is_puts : (s : FlatState) (pid : ℕ) (addr : Addr) (i : ℕ) (page : Page) (bytes : List ℕ) (reply : Reply) → slice_get s.map i ≡ Some ((pid, page_of addr), page)
     → put_bytes s i (offset_of addr) bytes ≡ (puts s pid addr page bytes reply).state
 put_is_puts s pid addr i page bytes reply there =
     ap (λ (found : Option (Place × Page)). record s { map = with_changed (with_put (offset_of addr) bytes) found s.map }) there

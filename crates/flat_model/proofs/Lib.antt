@@ -25,6 +25,7 @@ pub mod FourLemmas
 pub mod FreshLemmas
 pub mod KeyLemmas
 pub mod LeastLemmas
+pub mod ExecuteLemmas
 pub mod ObjectLemmas
 pub mod OpenLemmas
 pub mod OpeningLemmas

@@ -9,6 +9,7 @@
 
 mod buckets;
 pub mod check;
+pub mod execute;
 pub mod flat;
 pub mod frame_laws;
 mod need;

@@ -9,7 +9,7 @@ ghost use Rattle.flat_model.specs.Rows.{with_put};
 ghost use Rattle.flat_model.specs.State.{bytes_of};
 
 use cl_types::call::Perm;
-use cl_types::items::NoMemory;
+use cl_types::items::{Bytes, NoMemory};
 use cl_types::limits::PAGE_BYTES;
 use std::alloc::Global;
 use std::marker::Model;
@@ -80,6 +80,18 @@ impl MappedPage {
         }
     }
 
+    /// Its `n` bytes from a place on.
+    #[tactic(auto, using(crate::proofs::FreshLemmas::fresh_piece))]
+    pub fn piece(&self, alloc: Global, at: usize, n: usize) -> Result<Bytes, NoMemory>
+        requires within { at + n ≤ PAGE_BYTES }
+        ensures { IfOk result (λ piece. piece ≡ bytes_at at n (bytes_of self.now)) }
+    {
+        match &self.bytes {
+            None => list_of(alloc, &so_many_zeros(alloc, n)?),
+            Some(bytes) => list_of(alloc, &bytes[at..at + n]),
+        }
+    }
+
     /// The word of 8 bytes from a place on.
     #[tactic(auto, using(crate::proofs::FreshLemmas::fresh_word))]
     pub fn word(&self, at: usize) -> u64
@@ -109,6 +121,14 @@ impl MappedPage {
         }
         Ok(())
     }
+}
+
+fn list_of(alloc: Global, bytes: &[u8]) -> Result<Bytes, NoMemory>
+    ensures { IfOk result (λ list. list ≡ bytes.now) }
+{
+    let mut list = Bytes::create(alloc);
+    list.append(bytes)?;
+    Ok(list)
 }
 
 fn word_of(bytes: &[u8]) -> u64
