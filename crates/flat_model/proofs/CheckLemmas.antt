@@ -15,7 +15,8 @@ use Rattle.cl_types.specs.declared.reply.Reply.{Reply}
 use Rattle.cl_types.specs.declared.reply.Reply.TheVariants.{Refused, Nothing, Word}
 use Rattle.flat_model.specs.Pages.{page_of, offset_of, word_at, word_after}
 use Rattle.flat_model.specs.Rows.{put_bytes, with_changed, with_put}
-use Rattle.flat_model.specs.Checks.{Opens, Checks, MayStep}
+use Rattle.flat_model.specs.Checks.{Opens, Checks}
+use Rattle.flat_model.specs.Run.{MayStep}
 use Rattle.flat_model.specs.State.{FlatState, Page, bytes_of}
 use Rattle.flat_model.specs.Step.{MayReply, Outcome, refused, puts, read, write, atomic, may_write, may_change}
 
@@ -113,5 +114,5 @@ pub may_step : (s : FlatState) (number pid : ℕ) (request : Request) (reply : R
     → IfOk result (λ may. IsTrue may ↔ MayReply s number request reply) → IfOk result (λ may. IsTrue may ↔ MayStep s pid request reply)
 may_step s number pid request reply result same in_range may =
     IfOk-weaker result (λ b. IsTrue b ↔ MayReply s pid request reply) (λ b. IsTrue b ↔ MayStep s pid request reply)
-    (λ b both. (λ is. record { in_range = in_range; may = both.0 is }, λ step. both.1 step.may))
+    (λ b both. (λ is. record { in_range = in_range; may = both.0 is; after = refl }, λ step. both.1 step.may))
     (subst (λ (n : ℕ). IfOk result (λ b. IsTrue b ↔ MayReply s n request reply)) same may)

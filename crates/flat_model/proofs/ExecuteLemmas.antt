@@ -1,5 +1,5 @@
 -- Steps that the flat machine takes by itself.
-use Rattle.std.proofs.Common.{◌≡◌, ℕ, ◌<◌, ◌≤◌, ◌+◌, IsTrue, List, Some, Ok, Err, sym, ap, subst, ◌∙◌, arith}
+use Rattle.std.proofs.Common.{◌≡◌, ℕ, ◌<◌, ◌≤◌, IsTrue, List, Some, Ok, Err, sym, ap, subst, ◌∙◌, arith}
 use Rattle.cl_types.specs.Places.{Place}
 use Rattle.cl_types.specs.declared.numbers.Addr.{Addr}
 use Rattle.cl_types.specs.declared.reply.Refusal.{Refusal}

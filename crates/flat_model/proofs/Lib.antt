@@ -31,3 +31,4 @@ pub mod OpenLemmas
 pub mod OpeningLemmas
 pub mod PutLemmas
 pub mod RangeLemmas
+pub mod ItemFrameLemmas

@@ -15,8 +15,8 @@ use Rattle.flat_model.specs.Grammar.{Fault, script_of}
 use Rattle.flat_model.specs.Outside.{Clock, Received, Datagram, NothingCame, ReceivingFailed, Sendings}
 use Rattle.flat_model.specs.Nodes.{opening_node}
 use Rattle.flat_model.specs.Client.{new_client}
-use Rattle.flat_model.specs.Serving.{Serving, served_over}
-use Rattle.flat_model.specs.Driving.{Driving, Stop, AllEnded, Stalled, WireFailed, DrivesTo, turns, stop_at}
+use Rattle.flat_model.specs.Serving.{Serving, serving_of, served_over}
+use Rattle.flat_model.specs.Driving.{Driving, driving_of, Stop, AllEnded, Stalled, WireFailed, DrivesTo, turns, stop_at}
 use Rattle.flat_model.proofs.RowTexts.{text}
 
 -- ---- frames of client 1 of process 1: a page, three bytes put into it, four read; and the replies to them
@@ -75,16 +75,8 @@ babbles from = Datagram junk from
 
 -- a node of 16 pages that keeps so many replies and was last given this moment
 abbrev lent : (retry last : ℕ) → Clock → Sendings → Serving ℕ
-lent retry last clock sendings = record {
-  node = opening_node (record { pages = 16; buckets = 8; ring = 4; retry = retry; offloads = [] });
-  last = last;
-  clock = clock;
-  sendings = sendings;
-  sent = [];
-  served = 0;
-  idles = 0;
-  failed = false;
-}
+lent retry last clock sendings =
+    serving_of (opening_node (record { pages = 16; buckets = 8; ring = 4; retry = retry; offloads = [] })) last clock sendings
 
 -- it keeps four replies, its clock stands at 0, and each sending goes through
 abbrev new_node : Serving ℕ
@@ -170,18 +162,8 @@ calls_in (Err fault) = []
 
 -- client 1 of process 1 before its first turn
 abbrev start : List Text → Clock → List (Received ℕ) → Sendings → Driving ℕ
-start script clock receives sendings = record {
-  client = new_client (record { 0 = 1 }) 1;
-  script = calls_in (script_of (text script));
-  lines = [];
-  clock = clock;
-  receives = receives;
-  sendings = sendings;
-  sent = [];
-  printed = [];
-  fruitless = 0;
-  failed = false;
-}
+start script clock receives sendings =
+    driving_of (new_client (record { 0 = 1 }) 1) (calls_in (script_of (text script))) clock receives sendings
 
 -- the lines of a driven client's output
 abbrev output : Driving ℕ → List Text

@@ -1,16 +1,14 @@
--- What checking a step tells.
+-- What checking one kind of step tells. No public clause cites this module.
 use Rattle.std.specs.Prelude.{ℕ, ◌≡◌, ◌↔◌, Bool, List, take, Some, Result, Ok, Err, slice_get, slice_set, if◌then◌else◌, IsTrue}
 use Rattle.cl_types.specs.declared.call.Perm.{Perm}
 use Rattle.cl_types.specs.declared.numbers.Addr.{Addr}
-use Rattle.cl_types.specs.declared.request.Request.{Request}
 use Rattle.cl_types.specs.declared.reply.Refusal.{Refusal}
 use Rattle.cl_types.specs.declared.reply.Reply.{Reply}
 use Rattle.cl_types.specs.declared.reply.Reply.TheVariants.{Refused, Got}
 use Rattle.flat_model.specs.Objects.{Object, KvObject, Pairs, Given, object_step}
 use Rattle.flat_model.specs.Pages.{page_of}
 use Rattle.flat_model.specs.State.{FlatState, Page}
-use Rattle.flat_model.specs.Ranges.{is_in_range}
-use Rattle.flat_model.specs.Step.{MayReply, Outcome, on_bytes, refused}
+use Rattle.flat_model.specs.Step.{Outcome, on_bytes, refused}
 
 -- What looking for the page of an address gives, that is to get bytes: why it gets none, or the position of its entry.
 abbrev pub Opens : FlatState → ℕ → Addr → (Perm → Bool) → Result ℕ Refusal → Type 0
@@ -48,9 +46,3 @@ pub record ChecksOne (objects : List Object) (number : ℕ) (object : Object) (o
   pub new : Object
   pub checks : ChecksObject object (object_step object op bytes) out reply may new
   pub set : rest ≡ slice_set objects number new
-
--- ---- any step
--- the request is in its ranges, and the reply is one that may be given
-pub record MayStep (s : FlatState) (pid : ℕ) (request : Request) (reply : Reply) : Type 0 where
-  pub in_range : IsTrue (is_in_range request)
-  pub may : MayReply s pid request reply

@@ -2,6 +2,7 @@
 use Rattle.std.specs.Prelude.{ℕ, ◌+◌, ◌-◌, ◌==◌, Bool, true, false, ◌&&◌, not, nat_lt, leb, List, [], ◌∷◌, ◌++◌, length, map, drop, take, filter, filter_map, flat_map, Option, Some, None, is_none, if◌then◌else◌, slice_get, find, option_map, unwrap_or}
 use Rattle.std.specs.List.{enumerate_from}
 use Rattle.cl_types.specs.declared.numbers.ClientNo.{ClientNo}
+use Rattle.cl_types.specs.declared.frame.Head.{Head}
 use Rattle.cl_types.specs.declared.call.Call.{Call}
 use Rattle.cl_types.specs.declared.call.Call.TheVariants as call
 use Rattle.cl_types.specs.declared.request.Request.{Request}
@@ -212,6 +213,10 @@ pub record Outgoing : Type 0 where
   pub id : ℕ
   pub orig : ℕ
   pub again : Bool
+
+-- the head under which a part goes out
+abbrev pub head_of : ClientNo → (pid : ℕ) → Outgoing → Head
+head_of c pid o = record { client = c; pid = pid; id = o.id; orig = o.orig }
 
 -- what a poll does: it gives up a part, ends a Fence, sends a frame of items, or does nothing
 pub data Polled : Type 0 where

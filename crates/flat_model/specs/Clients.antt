@@ -34,7 +34,7 @@ call_of (text.Atomic addr op) = call.Atomic addr op
 call_of (text.Offload number op out bytes) = call.Offload number op (expanded bytes) (zeros out)
 call_of text.Fence = call.Fence
 
--- the process of a client of the configuration
+-- the process of a client of the configuration, and 0 where it has no such client
 abbrev pub pid_of : Config → ClientNo → ℕ
 pid_of config c = unwrap_or (option_map (λ entry. entry.1) (find (λ entry. same_client c entry.0) config.clients)) 0
 

@@ -5,7 +5,7 @@ use Rattle.cl_types.specs.declared.config.NodeConfig.{NodeConfig}
 use Rattle.cl_types.specs.declared.schedule.What.{What}
 use Rattle.flat_model.specs.Text.{Text}
 use Rattle.flat_model.specs.Words.{Argument, Number, Value, N, arguments_in}
-use Rattle.flat_model.specs.Grammar.{u16, u64, by_word}
+use Rattle.flat_model.specs.Grammar.{u16, u64, process_number, by_word}
 
 -- what the program is asked to do, with its numbers
 pub data Command : Type 0 where
@@ -52,7 +52,7 @@ command_forms =
     ∷ (codes "check", record { arguments = []; makes = plain Check })
     ∷ (codes "storm", record { arguments = u64 ∷ Number 0 100000 ∷ []; makes = storm_command })
     ∷ (codes "node", record { arguments = u16 ∷ u64 ∷ u64 ∷ u64 ∷ u64 ∷ counts ∷ counts ∷ []; makes = node_command })
-    ∷ (codes "client", record { arguments = Number 1 65535 ∷ u16 ∷ Number 1 65279 ∷ []; makes = client_command })
+    ∷ (codes "client", record { arguments = Number 1 65535 ∷ u16 ∷ process_number ∷ []; makes = client_command })
     ∷ []
 
 -- the command with these values, where they are good

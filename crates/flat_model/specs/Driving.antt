@@ -1,15 +1,16 @@
 -- Driving a client through a script: what comes of what a wire gives, by a clock's answers.
-use Rattle.std.specs.Prelude.{ℕ, zero, suc, ◌+◌, ◌-◌, ◌<◌, ◌≡◌, ◌==◌, Bool, true, false, ◌&&◌, ◌||◌, max, leb, nat_lt, List, [], ◌∷◌, ◌++◌, map, Option, Some, None, unwrap_or, slice_get, if◌then◌else◌}
+use Rattle.std.specs.Prelude.{ℕ, zero, suc, ◌+◌, ◌-◌, ◌<◌, ◌≡◌, ◌==◌, Bool, true, false, ◌&&◌, ◌||◌, leb, nat_lt, List, [], ◌∷◌, ◌++◌, map, Option, Some, None, unwrap_or, slice_get, if◌then◌else◌}
 use Rattle.cl_types.specs.declared.limits.TheConstants.{HELD_CALLS, STALL_TURNS}
 use Rattle.cl_types.specs.declared.frame.IssueFault.{IssueFault}
 use Rattle.cl_types.specs.declared.line.EndedCall.{EndedCall}
 use Rattle.cl_types.specs.declared.schedule.CallText.{CallText}
 use Rattle.flat_model.specs.Frames.{request_frame}
-use Rattle.flat_model.specs.Client.{ClientState, Outgoing, Polled, Sends, Idles, held, poll, after_issue, after_poll, handed_out, told}
+use Rattle.flat_model.specs.Client.{ClientState, Outgoing, head_of, Polled, Sends, Idles, held, poll, after_issue, after_poll, handed_out, told}
 use Rattle.flat_model.specs.Issue.{issue_fault}
 use Rattle.flat_model.specs.Hearing.{Hearing, HearsReply, hearing, after_hearing}
 use Rattle.flat_model.specs.Clients.{call_of}
-use Rattle.flat_model.specs.Outside.{Clock, answer_of, after_answer, Received, Datagram, NothingCame, ReceivingFailed, Sendings, goes_through, after_sending}
+use Rattle.flat_model.specs.Text.{is_empty}
+use Rattle.flat_model.specs.Outside.{Clock, moment_of, after_answer, Received, Datagram, NothingCame, ReceivingFailed, Sendings, goes_through, after_sending}
 
 -- what a driven client prints, by the line of the call in the script
 pub data Printed : Type 0 where
@@ -36,9 +37,9 @@ pub record Driving (Peer : Type 0) : Type 0 where
 
 -- the bytes of the frame in which the client sends a part
 abbrev pub frame_of : ClientState → Outgoing → List ℕ
-frame_of s o = request_frame (record { client = s.client; pid = s.pid; id = o.id; orig = o.orig }) o.request
+frame_of s o = request_frame (head_of s.client s.pid o) o.request
 
--- the line of call n
+-- the line of call n, and 0 where no such call was issued
 abbrev pub line_of : List ℕ → ℕ → ℕ
 line_of lines n = unwrap_or (slice_get lines (n - 1)) 0
 
@@ -46,6 +47,21 @@ line_of lines n = unwrap_or (slice_get lines (n - 1)) 0
 abbrev pub is_reply : Hearing → Bool
 is_reply (HearsReply flight reply) = true
 is_reply other = false
+
+-- a client that was lent with a script, before the first turn
+abbrev pub driving_of : {Peer : Type 0} → ClientState → List (ℕ × CallText) → Clock → List (Received Peer) → Sendings → Driving Peer
+driving_of client script clock receives sendings = record {
+  client = client;
+  script = script;
+  lines = [];
+  clock = clock;
+  receives = receives;
+  sendings = sendings;
+  sent = [];
+  printed = [];
+  fruitless = 0;
+  failed = false;
+}
 
 module _ {Peer : Type 0} where
   -- ---- calls are issued while fewer than may be are held
@@ -99,10 +115,6 @@ module _ {Peer : Type 0} where
   }
 
   -- ---- a turn
-  -- the greater of the clock's answer and the last moment
-  abbrev pub moment_of : Driving Peer → ℕ
-  moment_of d = max (answer_of d.clock) d.client.last
-
   -- the next of what the wire gives is a reply that the client takes
   abbrev pub takes_reply : ClientState → List (Received Peer) → Bool
   takes_reply s (Datagram bytes from ∷ rest) = is_reply (hearing s bytes)
@@ -124,7 +136,10 @@ module _ {Peer : Type 0} where
 
   -- one turn: calls are issued, the moment is taken, and the client is polled
   abbrev pub turn : Driving Peer → Driving Peer
-  turn d = let ready : Driving Peer = issues d.script d in turn_on (moment_of ready) (poll ready.client (moment_of ready)) ready
+  turn d =
+      let ready : Driving Peer = issues d.script d in
+      let t : ℕ = moment_of ready.clock ready.client.last in
+      turn_on t (poll ready.client t) ready
 
   -- so many turns
   abbrev pub turns : ℕ → Driving Peer → Driving Peer
@@ -138,16 +153,11 @@ pub data Stop : Type 0 where
   Stalled : (moment : ℕ) → Stop
   WireFailed : Stop
 
--- the list is empty
-abbrev pub is_none_left : {A : Type 0} → List A → Bool
-is_none_left [] = true
-is_none_left (x ∷ xs) = false
-
 -- before a turn: the wire failed, no call is left, or too many turns in a row were not fruitful
 abbrev pub stop_at : {Peer : Type 0} → Driving Peer → Option Stop
 stop_at d =
     if d.failed then Some WireFailed
-    else if is_none_left d.script && held d.client == 0 then Some AllEnded
+    else if is_empty d.script && held d.client == 0 then Some AllEnded
     else if leb STALL_TURNS d.fruitless then Some (Stalled d.client.last)
     else None
 

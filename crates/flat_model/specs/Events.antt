@@ -21,7 +21,7 @@ use Rattle.cl_types.specs.declared.line.Entry.{Entry}
 use Rattle.flat_model.specs.Pages.{page_of, offset_of}
 use Rattle.flat_model.specs.State.{FlatState, Page, page_at, bytes_of, used}
 use Rattle.flat_model.specs.Frames.{request_frame, reply_frame, request_fault, reply_fault, kind_of, status_in}
-use Rattle.flat_model.specs.Client.{ClientState, Sending, Outgoing, Polled, GivesUp, EndsFence, Sends, Idles, poll, after_poll, after_reply, end_told, flight_under, same_client, same_part}
+use Rattle.flat_model.specs.Client.{ClientState, Sending, Outgoing, head_of, Polled, GivesUp, EndsFence, Sends, Idles, poll, after_poll, after_reply, end_told, flight_under, same_client, same_part}
 use Rattle.flat_model.specs.Issue.{issue_fault}
 use Rattle.flat_model.specs.Account.{Account, Frame, Carried, Load, Asks, Answers, Effect, nothing_yet, now, frame_at, next_frame_number, is_live, taken_in_order, memory_at, recorded, says, joined_by, extended}
 use Rattle.flat_model.specs.Clients.{call_of, expanded, client_at}
@@ -46,7 +46,7 @@ sent_text c frame o = if o.again then did.Again frame c o.part o.id o.orig else 
 abbrev pub carried : ClientNo → ℕ → Outgoing → Carried
 carried c pid o = record {
   part = o.part;
-  item = record { head = record { client = c; pid = pid; id = o.id; orig = o.orig }; request = o.request };
+  item = record { head = head_of c pid o; request = o.request };
 }
 
 -- the bytes of a frame with these items: in this version there is one
@@ -153,7 +153,7 @@ abbrev pub shown : ℕ → Option Frame → Effect
 shown k None = says (did.ShownAbsent k)
 shown k (Some frame) = says (did.Shown k frame.bytes)
 
--- what bytes bring that spell no frame, which all garbage of a schedule does: their fault
+-- what garbage brings: the fault of its bytes; no schedule has garbage that spells a frame for its end
 abbrev pub on_garbage : Option BadFrame → Effect
 on_garbage (Some fault) = says (did.Bad fault)
 on_garbage None = says did.Idle

@@ -1,11 +1,12 @@
 -- Laws of frames, each proved by a function of src/frame_laws.rt.
 use Rattle.std.specs.Prelude.{ℕ, ◌+◌, ◌≡◌, List, None, slice_index, IsTrue}
 use Rattle.cl_types.specs.declared.call.Kind.{Kind}
+use Rattle.cl_types.specs.declared.numbers.ClientNo.{ClientNo}
 use Rattle.cl_types.specs.declared.frame.Head.{Head}
 use Rattle.cl_types.specs.declared.request.Request.{Request}
 use Rattle.cl_types.specs.declared.reply.Reply.{Reply}
 use Rattle.flat_model.specs.Ranges.{are_bytes}
-use Rattle.flat_model.specs.Frames.{SpellsRequest, SpellsReply, request_fault, reply_fault, head_in, request_in, reply_in, kind_number}
+use Rattle.flat_model.specs.Frames.{Item, SpellsRequest, SpellsReply, SpellsFrame, request_fault, reply_fault, head_in, request_in, reply_in, items_in, kind_number}
 
 -- a node that reads the bytes finds no fault, this head and this body
 pub record ReadsAsRequest (bytes : List ℕ) (head : Head) (body : Request) : Type 0 where
@@ -63,3 +64,16 @@ abbrev pub NoRequestIsAReply : Type 0
 NoRequestIsAReply =
     (bytes : List ℕ) (head other_head : Head) (kind : Kind) (request : Request) (reply : Reply)
     → SpellsRequest bytes head request → SpellsReply bytes other_head kind reply → ⊥
+
+-- ---- frames of items
+-- bytes that spell a frame have no fault, and their items are those that it carries
+abbrev pub FramesAreReadAgain : Type 0
+FramesAreReadAgain =
+    (bytes : List ℕ) (client : ClientNo) (pid : ℕ) (items : List Item)
+    → SpellsFrame bytes client pid items → (request_fault bytes ≡ None) × (items_in bytes ≡ items)
+
+-- bytes with no fault spell a frame of the items that are read in them
+abbrev pub FaultlessFramesAreSpelled : Type 0
+FaultlessFramesAreSpelled =
+    (bytes : List ℕ) → IsTrue (are_bytes bytes) → request_fault bytes ≡ None
+    → SpellsFrame bytes (head_in bytes).client (head_in bytes).pid (items_in bytes)

@@ -15,8 +15,9 @@ use Rattle.cl_types.specs.declared.schedule.What.{What}
 use Rattle.cl_types.specs.declared.schedule.What.TheVariants.{BadByte, BadSpacing, NodeExpected, ClientExpected, OutOfPlace, UnknownWord, MissingWord, UnknownClient, ClientRepeated, TooManyClients, BadLength, AFrame}
 use Rattle.flat_model.specs.Text.{Text, lines_in, words_in, first_word, is_skipped, is_text, is_empty}
 use Rattle.flat_model.specs.Faults.{first_fault}
-use Rattle.flat_model.specs.Words.{Argument, Number, Address, Permission, BytesWord, Value, N, A, P, B, arguments_in}
-use Rattle.cl_types.specs.declared.limits.TheConstants.{PAGE_BYTES, MOST_CLIENTS}
+use Rattle.flat_model.specs.Words.{most_written, Argument, Number, Address, Permission, BytesWord, Value, N, A, P, B, arguments_in}
+use Rattle.cl_types.specs.declared.limits.TheConstants.{PAGE_BYTES, PART_BYTES, MOST_CLIENTS}
+use Rattle.cl_types.specs.declared.numbers.TheConstants.{LAST_PID}
 use Rattle.flat_model.specs.Pages.{offset_of}
 use Rattle.flat_model.specs.Ranges.{is_good_address}
 use Rattle.flat_model.specs.Clients.{expanded}
@@ -45,6 +46,10 @@ u16 = Number 0 65535
 -- a number of 32 bits
 abbrev pub u32 : Argument
 u32 = Number 0 4294967295
+
+-- the number of a process
+abbrev pub process_number : Argument
+process_number = Number 1 LAST_PID
 
 -- a number of 64 bits
 abbrev pub u64 : Argument
@@ -151,13 +156,13 @@ abbrev pub call_forms : List (Text × CallForm)
 call_forms =
     (codes "alloc", record { arguments = u32 ∷ Permission ∷ []; calls = alloc_call })
     ∷ (codes "free", record { arguments = Address ∷ u32 ∷ []; calls = free_call })
-    ∷ (codes "read", record { arguments = Address ∷ Number 0 70000 ∷ []; calls = read_call })
+    ∷ (codes "read", record { arguments = Address ∷ Number 0 most_written ∷ []; calls = read_call })
     ∷ (codes "write", record { arguments = Address ∷ BytesWord ∷ []; calls = write_call })
     ∷ (codes "lock", record { arguments = Address ∷ []; calls = lock_call })
     ∷ (codes "unlock", record { arguments = Address ∷ []; calls = unlock_call })
     ∷ (codes "add", record { arguments = Address ∷ u64 ∷ []; calls = add_call })
     ∷ (codes "cas", record { arguments = Address ∷ u64 ∷ u64 ∷ []; calls = cas_call })
-    ∷ (codes "offload", record { arguments = Number 0 255 ∷ Number 0 255 ∷ Number 0 70000 ∷ BytesWord ∷ []; calls = offload_call })
+    ∷ (codes "offload", record { arguments = Number 0 255 ∷ Number 0 255 ∷ Number 0 most_written ∷ BytesWord ∷ []; calls = offload_call })
     ∷ (codes "fence", record { arguments = []; calls = fence_call })
     ∷ []
 
@@ -211,19 +216,20 @@ abbrev pub line_forms : List Text → List (Text × Begun)
 line_forms ws =
     (codes "node", (form (u64 ∷ u64 ∷ u64 ∷ u64 ∷ []) node_says, ws))
     ∷ (codes "offload", in_offload ws)
-    ∷ (codes "client", (form (u16 ∷ Number 1 65279 ∷ []) client_says, ws))
+    ∷ (codes "client", (form (u16 ∷ process_number ∷ []) client_says, ws))
     ∷ (codes "call", in_call ws)
     ∷ (codes "poll", (form (u16 ∷ []) (of_number (λ n. event.Poll (record { 0 = n }))), ws))
     ∷ (codes "deliver", in_deliver ws)
     ∷ (codes "drop", (form [] (bare event.Drop), ws))
     ∷ (codes "tick", (form (Number 1 1000000000 ∷ []) (of_number event.Tick), ws))
-    ∷ (codes "peek", (form (Number 1 65279 ∷ Address ∷ Number 1 1024 ∷ []) peek_says, ws))
+    ∷ (codes "peek", (form (process_number ∷ Address ∷ Number 1 PART_BYTES ∷ []) peek_says, ws))
     ∷ (codes "show", (form (Number 1 4294967295 ∷ []) (of_number event.Show), ws))
     ∷ (codes "stat", (form [] (bare event.Stat), ws))
     ∷ (codes "garbage", in_garbage ws)
     ∷ []
 
--- what a line says with these values, or what is wrong with one of them
+-- what a line says with these values, or what is wrong with one of them; each form says something of the values of its
+-- arguments, so its third case never comes
 abbrev pub said_by : (List Value → Option Said) → Result (List Value) What → Result Said What
 said_by says (Err what) = Err what
 said_by says (Ok values) = elim (says values) [ None ↦ Err UnknownWord | Some said ↦ Ok said ]
@@ -341,7 +347,7 @@ abbrev pub schedule_of : List ℕ → Result Schedule Fault
 schedule_of bytes = schedule_from nothing_read 1 (lines_in bytes)
 
 -- ---- a client's script: lines that are a call each
--- the call with these values, or what is wrong with one of them
+-- the call with these values, or what is wrong with one of them; here too the third case never comes
 abbrev pub called_by : (List Value → Option CallText) → Result (List Value) What → Result CallText What
 called_by calls (Err what) = Err what
 called_by calls (Ok values) = elim (calls values) [ None ↦ Err UnknownWord | Some call ↦ Ok call ]

@@ -137,7 +137,7 @@ abbrev pub is_event_line : Text → Bool
 is_event_line [] = false
 is_event_line (b ∷ bs) = is_digit b
 
--- the configuration that the header gives
+-- the configuration that the header gives, its numbers zeros where no node line came
 abbrev pub config_of : Reading → Config
 config_of r = record { node = elim r.node [ None ↦ record { pages = 0; buckets = 0; ring = 0; retry = 0; offloads = [] } | Some node ↦ node ]; clients = r.clients }
 

@@ -1,5 +1,5 @@
 -- What a wire and a clock give to the loops that serve a node and drive a client.
-use Rattle.std.specs.Prelude.{ℕ, Bool, true, List, [], ◌∷◌}
+use Rattle.std.specs.Prelude.{ℕ, max, Bool, true, List, [], ◌∷◌}
 
 -- ---- a clock
 -- a clock: the moments that it still answers, in ticks, and the one that it repeats after them
@@ -14,6 +14,10 @@ answer_of clock = elim clock.answers [ [] ↦ clock.repeats | n ∷ ns ↦ n ]
 -- the clock after its next answer
 abbrev pub after_answer : Clock → Clock
 after_answer clock = record clock { answers = elim clock.answers [ [] ↦ [] | n ∷ ns ↦ ns ] }
+
+-- the greater of the clock's answer and the last moment
+abbrev pub moment_of : Clock → (last : ℕ) → ℕ
+moment_of clock last = max (answer_of clock) last
 
 -- ---- a wire: what each receiving gives; where a datagram comes from is a value of any type
 -- what a receiving gives: a datagram with where it comes from, nothing, or a fault of the wire

@@ -1,5 +1,5 @@
--- The ranges of requests, and of all numbers that Rust's types bound. Definitions range over every number; where a
--- law needs a bound of a type, this is where it stands.
+-- The ranges of requests, and the bounds of Rust's types that a call or a request has; those of a head are `IsHead`.
+-- Definitions range over every number; where a law needs a bound of a type, it is one of these.
 use Rattle.std.specs.Prelude.{ℕ, ◌+◌, ◌^◌, ◌%◌, ◌==◌, Bool, true, ◌&&◌, leb, nat_lt, List, length}
 use Rattle.std.specs.List.{list_all}
 use Rattle.cl_types.specs.declared.limits.TheConstants.{ADDRESS_END, PAGE_BYTES, PART_BYTES, RANGE_PAGES, SPACE_PAGES}
@@ -39,8 +39,8 @@ is_typed_call (text.Atomic addr op) = nat_lt addr.0 (2 ^ 32) && has_words op
 is_typed_call (text.Offload number op out bytes) = nat_lt number 256 && nat_lt op 256 && nat_lt out (2 ^ 32) && are_bytes bytes.bytes
 is_typed_call text.Fence = true
 
--- The premise of the laws of the account: the calls of a schedule have numbers of their types. What is read from a text
--- has them.
+-- The premise of the laws of the account: the calls of a schedule have numbers of their types. No law says yet
+-- that what is read from a text has them.
 abbrev pub is_typed : Event → Bool
 is_typed (event.Call client call) = is_typed_call call
 is_typed other = true

@@ -1,4 +1,4 @@
--- What the plain lists of a flat state stand for.
+-- What the plain lists of a flat state stand for. No public clause cites this module.
 use Rattle.std.specs.Prelude.{ℕ, ◌+◌, ◌≤◌, leb, ◌++◌, map, Bool, List, Option, Some, None, slice_get, IsTrue}
 use Rattle.std.specs.List.{list_all, range_with_len}
 use Rattle.std.specs.Ordering.{eq_by_cmp}

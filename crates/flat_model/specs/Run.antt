@@ -15,6 +15,10 @@ pub record Step (s : FlatState) (pid : ℕ) (request : Request) (reply : Reply) 
   pub may : MayReply s pid request reply
   pub after : new ≡ state_after s pid request reply
 
+-- the machine may take this step
+abbrev pub MayStep : FlatState → ℕ → Request → Reply → Type 0
+MayStep s pid request reply = Step s pid request reply (state_after s pid request reply)
+
 -- the state after an entry's request and reply
 abbrev pub after_entry : FlatState → Entry → FlatState
 after_entry s entry = state_after s entry.pid entry.request entry.reply

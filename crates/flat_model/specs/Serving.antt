@@ -1,8 +1,8 @@
 -- Serving a node: what comes of what a wire gives, by a clock's answers.
-use Rattle.std.specs.Prelude.{ℕ, ◌+◌, Bool, true, false, max, leb, List, [], ◌∷◌, ◌++◌, ◌||◌, if◌then◌else◌}
+use Rattle.std.specs.Prelude.{ℕ, ◌+◌, Bool, true, false, leb, List, [], ◌∷◌, ◌++◌, ◌||◌, if◌then◌else◌}
 use Rattle.flat_model.specs.Frames.{Item, reply_frame, kind_of}
 use Rattle.flat_model.specs.Nodes.{Node, NodeStep, Said, Gives, IsBusy, keeping, items_read}
-use Rattle.flat_model.specs.Outside.{Clock, answer_of, after_answer, Received, Datagram, NothingCame, ReceivingFailed, Sendings, goes_through, after_sending}
+use Rattle.flat_model.specs.Outside.{Clock, moment_of, after_answer, Received, Datagram, NothingCame, ReceivingFailed, Sendings, goes_through, after_sending}
 
 -- a node that is served: what it is given, and what was sent and counted so far
 pub record Serving (Peer : Type 0) : Type 0 where
@@ -18,6 +18,11 @@ pub record Serving (Peer : Type 0) : Type 0 where
   pub idles : ℕ
   -- the wire failed
   pub failed : Bool
+
+-- a node that was lent, before the first turn
+abbrev pub serving_of : {Peer : Type 0} → Node → (last : ℕ) → Clock → Sendings → Serving Peer
+serving_of node last clock sendings =
+    record { node = node; last = last; clock = clock; sendings = sendings; sent = []; served = 0; idles = 0; failed = false }
 
 -- ---- the items of a datagram
 -- a reply goes out, or the wire fails
@@ -38,10 +43,6 @@ answers from t (i ∷ is) s =
     else (let step : NodeStep = keeping s.node t i in answers from t is (said_back from i step.said (record s { node = step.node })))
 
 -- ---- turns
--- the greater of the clock's answer and the last moment
-abbrev pub moment_of : {Peer : Type 0} → Serving Peer → ℕ
-moment_of s = max (answer_of s.clock) s.last
-
 -- the moment is the latest one, and the clock has answered
 abbrev pub at_moment : {Peer : Type 0} → ℕ → Serving Peer → Serving Peer
 at_moment t s = record s { last = t; clock = after_answer s.clock }
@@ -52,7 +53,8 @@ counted s = if s.failed then s else record s { served = s.served + 1; idles = 0 
 
 -- one turn: it receives once, and a datagram is given to the node
 abbrev pub turn : {Peer : Type 0} → Serving Peer → Received Peer → Serving Peer
-turn s (Datagram bytes from) = counted (answers from (moment_of s) (items_read bytes) (at_moment (moment_of s) s))
+turn s (Datagram bytes from) =
+    let t : ℕ = moment_of s.clock s.last in counted (answers from t (items_read bytes) (at_moment t s))
 turn s NothingCame = record s { idles = s.idles + 1 }
 turn s ReceivingFailed = record s { failed = true }
 

@@ -7,8 +7,8 @@ ghost use Rattle.flat_model.specs.Ranges.{is_in_range};
 ghost use Rattle.flat_model.specs.State.{bytes_of};
 ghost use Rattle.flat_model.specs.Step.{MayAlloc, MayReply, alloc_after, atomic, free, read, state_after, write};
 ghost use Rattle.flat_model.specs.Pages.{word_after};
-ghost use Rattle.flat_model.specs.Checks.{Checks, MayStep};
-ghost use Rattle.flat_model.specs.Run.{Step};
+ghost use Rattle.flat_model.specs.Checks.{Checks};
+ghost use Rattle.flat_model.specs.Run.{MayStep, Step};
 
 use crate::flat::Flat;
 use crate::need::{Need, may_be_read};

@@ -1,6 +1,6 @@
 //! Laws of frames: functions that do nothing, each with a law as its contract.
 
-ghost use Rattle.flat_model.specs.FrameLaws.{RequestsAreReadAgain, BytesSpellOneRequest, FaultlessRequestsAreSpelled, RepliesAreReadAgain, BytesSpellOneReply, FaultlessRepliesAreSpelled, NoRequestIsAReply};
+ghost use Rattle.flat_model.specs.FrameLaws.{RequestsAreReadAgain, BytesSpellOneRequest, FaultlessRequestsAreSpelled, RepliesAreReadAgain, BytesSpellOneReply, FaultlessRepliesAreSpelled, NoRequestIsAReply, FramesAreReadAgain, FaultlessFramesAreSpelled};
 
 /// Bytes that spell a request have no fault, and a node that reads them finds the head and the body that were spelled.
 pub fn requests_are_read_again()
@@ -36,4 +36,14 @@ pub fn faultless_replies_are_spelled()
 /// No bytes spell both a request and a reply.
 pub fn no_request_is_a_reply()
     ensures { NoRequestIsAReply }
+{}
+
+/// Bytes that spell a frame for the node have no fault, and the items that are read in them are those that it carries.
+pub fn frames_are_read_again()
+    ensures { FramesAreReadAgain }
+{}
+
+/// Bytes in which a node finds no fault spell a frame of the items that it reads in them.
+pub fn faultless_frames_are_spelled()
+    ensures { FaultlessFramesAreSpelled }
 {}

@@ -1,4 +1,4 @@
-//! Laws over the definitions.
+//! Laws of the least start: functions that do nothing, each with a law as its contract.
 
 ghost use Rattle.flat_model.specs.StartLaws.{LeastStartIsTheLeast, NoStartFitsWhereThereIsNone};
 
