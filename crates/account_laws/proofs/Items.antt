@@ -36,30 +36,31 @@ items_texts P of keep config l k (i ∷ is) b q =
     each_append P (on_item keep config b l k q i).texts _ (handled_texts P of (memory_at config b.history l q) b l k q i _) (items_texts P of keep config l k is (joined_by b (on_item keep config b l k q i)) (q + 1))
 
 -- ---- how an item is handled
--- What a handling says of the item and the records: whether the item changes, whether its part is recorded, and where
--- it is executed, that the oldest of as many records as are kept isn't young.
+-- What a handling says of the item and the records: whether the item changes, whether it is recorded, and where it is
+-- executed, that the oldest of as many records as are kept isn't young.
+abbrev pub HandledBy : {X : Type 0} → (X → Reply) → (X → ℕ) → Bool → Option X → ℕ → Option X → Handling → Type 0
+HandledBy {X} reply moment changing recorded t oldest (Repeats said) = (changing ≡ true) × (x : X) × (recorded ≡ Some x) × (reply x ≡ said)
+HandledBy reply moment changing recorded t oldest (RefusesForNow young) = changing ≡ true
+HandledBy {X} reply moment changing recorded t oldest Executes = (changing ≡ true) × (recorded ≡ None) × ((x : X) → oldest ≡ Some x → is_young t (moment x) ≡ false)
+HandledBy reply moment changing recorded t oldest Looks = changing ≡ false
+
+pub handled_by : {X : Type 0} (reply : X → Reply) (moment : X → ℕ) (changing : Bool) (recorded : Option X) (t : ℕ) (oldest : Option X)
+    → HandledBy reply moment changing recorded t oldest (handling changing (option_map reply recorded) t (option_map moment oldest))
+handled_by reply moment false recorded t oldest = refl
+handled_by reply moment true (Some x) t oldest = (refl, x, refl, refl)
+handled_by {X} reply moment true None t None = (refl, refl, λ x is. absurd (none_some x is)) where
+  none_some : (x : X) → ◌≡◌ {A = Option X} None (Some x) → ⊥
+  none_some x h = grind arith
+handled_by {X} reply moment true None t (Some x) = if_old (is_young t (moment x)) refl where
+  if_old : (y : Bool) → is_young t (moment x) ≡ y → HandledBy reply moment true None t (Some x) (if_young y (moment x))
+  if_old true young = refl
+  if_old false young = (refl, refl, λ z is. let same : x ≡ z = cc in subst (λ (w : X). is_young t (moment w) ≡ false) same young)
+
+-- of an item in an account
 abbrev pub Tells : (records : List Entry) → (retry : ℕ) → Account → ℕ → Carried → Handling → Type 0
-Tells records retry b l i (Repeats reply) =
-    (is_changing i.item.request ≡ true) × (e : Entry) × (record_of records i.item.head.client i.part ≡ Some e) × (e.reply ≡ reply)
-Tells records retry b l i (RefusesForNow oldest) = is_changing i.item.request ≡ true
-Tells records retry b l i Executes =
-    (is_changing i.item.request ≡ true) × (record_of records i.item.head.client i.part ≡ None)
-    × ((e : Entry) → oldest_of retry records ≡ Some e → is_young (now b l) (now b e.line) ≡ false)
-Tells records retry b l i Looks = is_changing i.item.request ≡ false
+Tells records retry b l i h =
+    HandledBy {X = Entry} (λ e. e.reply) (λ e. now b e.line) (is_changing i.item.request) (record_of records i.item.head.client i.part) (now b l) (oldest_of retry records) h
 
 pub handling_tells : (records : List Entry) (retry : ℕ) (b : Account) (l : ℕ) (i : Carried) → Tells records retry b l i (item_handling records retry b l i)
-handling_tells records retry b l i = go (is_changing i.item.request) refl (record_of records i.item.head.client i.part) refl (oldest_of retry records) refl where
-  none_some : (e : Entry) → ◌≡◌ {A = Option Entry} None (Some e) → ⊥
-  none_some e h = grind arith
-
-  if_old : is_changing i.item.request ≡ true → record_of records i.item.head.client i.part ≡ None → (e : Entry) → oldest_of retry records ≡ Some e
-      → (y : Bool) → is_young (now b l) (now b e.line) ≡ y → Tells records retry b l i (if_young y (now b e.line))
-  if_old changing new e oldest true young = changing
-  if_old changing new e oldest false young = (changing, new, λ x is. let same : Some e ≡ Some x = sym oldest ∙ is in let it : e ≡ x = cc in subst (λ (z : Entry). is_young (now b l) (now b z.line) ≡ false) it young)
-
-  go : (c : Bool) → is_changing i.item.request ≡ c → (o : Option Entry) → record_of records i.item.head.client i.part ≡ o → (x : Option Entry) → oldest_of retry records ≡ x
-      → Tells records retry b l i (handling c (option_map (λ e. e.reply) o) (now b l) (option_map (λ e. now b e.line) x))
-  go false changing o recorded x oldest = changing
-  go true changing (Some e) recorded x oldest = (changing, e, recorded, refl)
-  go true changing None new None oldest = (changing, new, λ e is. absurd (none_some e (sym oldest ∙ is)))
-  go true changing None new (Some e) oldest = if_old changing new e oldest (is_young (now b l) (now b e.line)) refl
+handling_tells records retry b l i =
+    handled_by {X = Entry} (λ e. e.reply) (λ e. now b e.line) (is_changing i.item.request) (record_of records i.item.head.client i.part) (now b l) (oldest_of retry records)

@@ -33,3 +33,4 @@ pub mod OrderKept
 pub mod Window
 pub mod WindowKept
 pub mod StandsKept
+pub mod SpanKept

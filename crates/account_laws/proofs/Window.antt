@@ -1,11 +1,11 @@
 -- The latest records tell of what is young enough what all records tell.
-use Rattle.std.proofs.Common.{◌≡◌, ℕ, zero, suc, ◌+◌, ◌-◌, ◌<◌, ◌≤◌, List, [], ◌∷◌, refl, sym, ap, ◌∙◌, subst, Bool, true, false, cond, arith, Some, None, Option, length, drop, ◌⊎◌, ⊎_elim}
-use Rattle.std.specs.Prelude.{find, slice_get, leb}
+use Rattle.std.proofs.Common.{◌≡◌, ℕ, zero, suc, ◌+◌, ◌-◌, ◌<◌, ◌≤◌, List, [], ◌∷◌, refl, sym, ap, ◌∙◌, subst, Bool, true, false, cond, arith, Some, None, Option, length, length-append, drop, ◌++◌, ◌⊎◌, inl, inr, ⊎_elim}
+use Rattle.std.specs.Prelude.{find, slice_get, leb, nat_lt}
 use Rattle.std.proofs.lemmas.Bool.Decides.{nat_tests}
-use Rattle.std.proofs.lemmas.List.{length-drop}
+use Rattle.std.proofs.lemmas.List.{length-drop, drop-append-le, drop-drop}
 use Rattle.std.specs.List.{AllByRecursion as Each}
 use Rattle.cl_types.specs.declared.limits.TheConstants.{SPAN}
-use Rattle.flat_model.specs.Handling.{latest, oldest_of}
+use Rattle.flat_model.specs.Handling.{latest, oldest_of, is_young}
 use Rattle.account_laws.proofs.Lists.{each_slice_get}
 
 module _ {X : Type 0} (moment : X → ℕ) (R : ℕ) where
@@ -86,3 +86,56 @@ oldest_latest {X} R xs some = ⊎_elim
     ∙ ap (slice_get xs) (let z : length xs - R + (length (drop (length xs - R) xs) - R) ≡ length xs - R = omega arith in z)
     ∙ sym (oldest_at R xs some many))
     (let c : (length xs < R) ⊎ (R ≤ length xs) = grind arith in c)
+
+-- ---- one more at the end
+last_of_more : {X : Type 0} (xs : List X) (y z : X) (n : ℕ) → slice_get (xs ++ y ∷ []) n ≡ Some z → (slice_get xs n ≡ Some z) ⊎ ((n ≡ length xs) × (y ≡ z))
+last_of_more [] y z zero e = inr (refl, cc)
+last_of_more [] y z (suc n) e = grind arith
+last_of_more (x ∷ xs) y z zero e = inl e
+last_of_more (x ∷ xs) y z (suc n) e =
+    ⊎_elim (λ (h : slice_get xs n ≡ Some z). inl h) (λ (h : (n ≡ length xs) × (y ≡ z)). let m : n ≡ length xs = h.0 in inr (omega arith, h.1)) (last_of_more xs y z n e)
+
+slice_get_within : {X : Type 0} (xs : List X) (i : ℕ) (x : X) → slice_get xs i ≡ Some x → i < length xs
+slice_get_within [] i x e = grind arith
+slice_get_within (y ∷ xs) zero x e = omega arith
+slice_get_within (y ∷ xs) (suc i) x e = let n : i < length xs = slice_get_within xs i x e in omega arith
+
+module _ {X : Type 0} (moment : X → ℕ) (R : ℕ) where
+  -- the oldest of the latest, so many, isn't young
+  abbrev pub IsOld : ℕ → List X → Type 0
+  IsOld t xs = (x : X) → oldest_of R xs ≡ Some x → is_young t (moment x) ≡ false
+
+  old_enough : (t : ℕ) (xs : List X) (k : ℕ) (x : X) → 1 ≤ R → IsOld t xs → slice_get xs k ≡ Some x → k + R ≡ length xs → moment x + SPAN ≤ t
+  old_enough t xs k x some old at_place far =
+      let place : slice_get xs (length xs - R) ≡ Some x = subst (λ n. slice_get xs n ≡ Some x) (let z : k ≡ length xs - R = omega arith in z) at_place in
+      late (old x (oldest_at R xs some (omega arith) ∙ place))
+    where
+      late : nat_lt (t - moment x) SPAN ≡ false → moment x + SPAN ≤ t
+      late h = grind (arith, nat_tests)
+
+  -- so one more at the end stands far enough behind
+  pub spaced_more : (xs : List X) (n : X) → 1 ≤ R → IsOld (moment n) xs → Spaced moment R xs → Spaced moment R (xs ++ n ∷ [])
+  spaced_more xs n some old s k x y at_place far = ⊎_elim
+      (λ (h : slice_get xs (k + R) ≡ Some y). ⊎_elim
+      (λ (i : slice_get xs k ≡ Some x). s k x y i h)
+      (λ (i : (k ≡ length xs) × (n ≡ x)). let w : k + R < length xs = slice_get_within xs (k + R) y h in let j : k ≡ length xs = i.0 in absurd (omega arith))
+      (last_of_more xs n x k at_place))
+      (λ (h : (k + R ≡ length xs) × (n ≡ y)). ⊎_elim
+      (λ (i : slice_get xs k ≡ Some x). subst (λ (z : X). moment x + SPAN ≤ moment z) h.1 (old_enough (moment n) xs k x some old i h.0))
+      (λ (i : (k ≡ length xs) × (n ≡ x)). let j : k ≡ length xs = i.0 in let m : k + R ≡ length xs = h.0 in absurd (omega arith))
+      (last_of_more xs n x k at_place))
+      (last_of_more xs n y (k + R) far)
+
+-- the latest of the latest and one more are the latest of all
+pub latest_more : {X : Type 0} (R : ℕ) (xs : List X) (y : X) → latest R (latest R xs ++ y ∷ []) ≡ latest R (xs ++ y ∷ [])
+latest_more {X} R xs y = ⊎_elim
+    (λ (few : length xs ≤ R). ap (λ zs. latest R (zs ++ y ∷ [])) (ap (λ n. drop n xs) (let z : length xs - R ≡ 0 = omega arith in z)))
+    (λ (many : R < length xs).
+    let len : length (drop (length xs - R) xs) ≡ length xs - (length xs - R) = length-drop (length xs - R) xs in
+    let more : length (drop (length xs - R) xs ++ y ∷ []) ≡ length (drop (length xs - R) xs) + 1 = length-append (drop (length xs - R) xs) (y ∷ []) in
+    let all : length (xs ++ y ∷ []) ≡ length xs + 1 = length-append xs (y ∷ []) in
+    ap (λ n. drop n (drop (length xs - R) xs ++ y ∷ [])) (let z : length (drop (length xs - R) xs ++ y ∷ []) - R ≡ 1 = omega arith in z)
+    ∙ ap (drop 1) (sym (drop-append-le (length xs - R) xs (y ∷ []) (omega arith)))
+    ∙ drop-drop 1 (length xs - R) (xs ++ y ∷ [])
+    ∙ ap (λ n. drop n (xs ++ y ∷ [])) (let z : length xs - R + 1 ≡ length (xs ++ y ∷ []) - R = omega arith in z))
+    (let c : (length xs ≤ R) ⊎ (R < length xs) = grind arith in c)

@@ -37,42 +37,11 @@ use Rattle.account_laws.proofs.Insert.{with_last, all_before, filter_with_entry}
 use Rattle.account_laws.proofs.Premises.{slice_get_within, none_some}
 use Rattle.account_laws.proofs.Ran.{InRange, LookOf, Ran}
 use Rattle.account_laws.proofs.RunKept.{item_runs, joined_twice, ran_later, ran_next, ran_nothing}
-use Rattle.account_laws.proofs.Window.{Spaced, window, window_none, oldest_at, oldest_latest}
+use Rattle.account_laws.proofs.Window.{Spaced, IsOld, spaced_more, window, window_none, oldest_latest}
 use Rattle.account_laws.proofs.Induction.{past, of_account}
 
 abbrev IsSpaced : Config → Account → List Entry → Type 0
 IsSpaced config a es = Spaced {X = Entry} (λ e. now a e.line) config.node.retry es
-
--- ---- one more at the end
-last_of_more : {X : Type 0} (xs : List X) (y z : X) (n : ℕ) → slice_get (xs ++ y ∷ []) n ≡ Some z → (slice_get xs n ≡ Some z) ⊎ ((n ≡ length xs) × (y ≡ z))
-last_of_more [] y z zero e = inr (refl, cc)
-last_of_more [] y z (suc n) e = grind arith
-last_of_more (x ∷ xs) y z zero e = inl e
-last_of_more (x ∷ xs) y z (suc n) e = ⊎_elim (λ (h : slice_get xs n ≡ Some z). inl h) (λ (h : (n ≡ length xs) × (y ≡ z)). let m : n ≡ length xs = h.0 in inr (omega arith, h.1)) (last_of_more xs y z n e)
-
--- the one so many places before the new one isn't young
-abbrev IsOld : Config → Account → ℕ → List Entry → Type 0
-IsOld config a t es = (e : Entry) → oldest_of config.node.retry es ≡ Some e → is_young t (now a e.line) ≡ false
-
-old_enough : (config : Config) (a : Account) (t : ℕ) (es : List Entry) (k : ℕ) (x : Entry) → 1 ≤ config.node.retry → IsOld config a t es → slice_get es k ≡ Some x → k + config.node.retry ≡ length es → now a x.line + SPAN ≤ t
-old_enough config a t es k x some old at_place far =
-    let place : slice_get es (length es - config.node.retry) ≡ Some x = subst (λ n. slice_get es n ≡ Some x) (let z : k ≡ length es - config.node.retry = omega arith in z) at_place in
-    late t (now a x.line) (old x (oldest_at config.node.retry es some (omega arith) ∙ place))
-  where
-    late : (t m : ℕ) → nat_lt (t - m) SPAN ≡ false → m + SPAN ≤ t
-    late t m h = grind (arith, nat_tests)
-
-spaced_more : (config : Config) (a : Account) (es : List Entry) (n : Entry) → 1 ≤ config.node.retry → IsOld config a (now a n.line) es → IsSpaced config a es → IsSpaced config a (es ++ n ∷ [])
-spaced_more config a es n some old s k x y at_place far = ⊎_elim
-    (λ (h : slice_get es (k + config.node.retry) ≡ Some y). ⊎_elim
-    (λ (i : slice_get es k ≡ Some x). s k x y i h)
-    (λ (i : (k ≡ length es) × (n ≡ x)). let w : k + config.node.retry < length es = slice_get_within es (k + config.node.retry) y h in let j : k ≡ length es = i.0 in absurd (omega arith))
-    (last_of_more es n x k at_place))
-    (λ (h : (k + config.node.retry ≡ length es) × (n ≡ y)). ⊎_elim
-    (λ (i : slice_get es k ≡ Some x). subst (λ (z : Entry). now a x.line + SPAN ≤ now a z.line) h.1 (old_enough config a (now a n.line) es k x some old i h.0))
-    (λ (i : (k ≡ length es) × (n ≡ x)). let j : k ≡ length es = i.0 in let m : k + config.node.retry ≡ length es = h.0 in absurd (omega arith))
-    (last_of_more es n x k at_place))
-    (last_of_more es n y (k + config.node.retry) far)
 
 -- ---- items
 recorded_all : (h : List Entry) (l q : ℕ) → Each (λ (x : Entry). is_before l q x ≡ true) h → recorded h l q ≡ changing_of h
@@ -91,8 +60,8 @@ handled_spaced config b l k q i some before spaced s (Repeats reply) tells = spa
 handled_spaced config b l k q i some before spaced s (RefusesForNow oldest) tells = spaced
 handled_spaced config b l k q i some before spaced s Executes tells =
     subst (IsSpaced config b) (sym (changing_last (entry_of l q i (item_outcome s i.item).reply) b.history before tells.0))
-    (spaced_more config b (changing_of b.history) (entry_of l q i (item_outcome s i.item).reply) some
-    (subst (IsOld config b (now b l)) (recorded_all b.history l q before) tells.2) spaced)
+    (spaced_more {X = Entry} (λ e. now b e.line) config.node.retry (changing_of b.history) (entry_of l q i (item_outcome s i.item).reply) some
+    (subst (IsOld {X = Entry} (λ e. now b e.line) config.node.retry (now b l)) (recorded_all b.history l q before) tells.2) spaced)
 handled_spaced config b l k q i some before spaced s Looks tells = spaced
 
 item_spaced : (config : Config) (b : Account) (l k q : ℕ) (i : Carried) → 1 ≤ config.node.retry → Each (λ (x : Entry). is_before l q x ≡ true) b.history

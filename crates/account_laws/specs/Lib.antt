@@ -7,3 +7,4 @@ pub mod Times
 pub mod Runs
 pub mod Histories
 pub mod Window
+pub mod Span

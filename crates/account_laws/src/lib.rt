@@ -3,3 +3,4 @@
 
 pub mod client_laws;
 pub mod laws;
+pub mod node_laws;
