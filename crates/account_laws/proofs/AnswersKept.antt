@@ -1,8 +1,7 @@
 -- Each event keeps that answers are made of the replies of the history.
-use Rattle.std.proofs.Common.{◌≡◌, ℕ, zero, suc, ◌+◌, List, [], ◌∷◌, ◌++◌, refl, sym, ap, ◌∙◌, subst, Bool, true, false, cond, arith, Some, None, Option, map, ◌⊎◌, inl, inr, ⊎_elim}
-use Rattle.std.specs.Prelude.{filter, filter_map, slice_get, option_map, option_and_then, not, ◌&&◌}
-use Rattle.std.specs.List.{AllByRecursion as Each, cons_option}
-use Rattle.cl_types.specs.Requests.{is_changing}
+use Rattle.std.proofs.Common.{◌≡◌, ℕ, ◌+◌, List, [], ◌∷◌, refl, sym, ap, ◌∙◌, subst, Bool, true, false, cond, arith, Some, None, Option, map, inl, inr, ⊎_elim}
+use Rattle.std.specs.Prelude.{filter_map, option_map, option_and_then, ◌&&◌}
+use Rattle.std.specs.List.{AllByRecursion as Each}
 use Rattle.cl_types.specs.declared.config.Config.{Config}
 use Rattle.cl_types.specs.declared.numbers.ClientNo.{ClientNo}
 use Rattle.cl_types.specs.declared.call.Call.{Call}
@@ -18,28 +17,25 @@ use Rattle.cl_types.specs.declared.line.EndedCall.{EndedCall}
 use Rattle.cl_types.specs.declared.line.Entry.{Entry}
 use Rattle.cl_types.specs.declared.schedule.Event.{Event}
 use Rattle.cl_types.specs.declared.schedule.Event.TheVariants as event
-use Rattle.flat_model.specs.Cut.{Ending, Replied, GivenUp, first_given_up, combine, answer_bytes, handed_back}
+use Rattle.flat_model.specs.Cut.{Ending, Replied, GivenUp, first_given_up, combine, answer_bytes}
 use Rattle.flat_model.specs.Order.{is_fence}
-use Rattle.flat_model.specs.Account.{Account, Line, Frame, Carried, Load, Asks, Answers, Effect, says, joined_by, extended, now, frame_at, with_entry, memory_at, nothing_yet}
-use Rattle.flat_model.specs.Client.{Standing, ClientCall, ClientPart, ClientState, Finished, Sending, Polled, GivesUp, EndsFence, Sends, same_client, same_part, emptied, call_standing, standing_so, parts_named, call_changed, given_up, answered, every, ending_of, all_over, finished, finished_with, counted, told, end_told, again, anew, next_id}
-use Rattle.flat_model.specs.Clients.{issued, call_at, numbered, first_sent, moments_sent, first_of, texts_on, texts_with, part_end, PartEnd, TookFrame, GaveUpAt, end_of_part, ending, ending_by, replied, standing, standing_at, has_ended, client_at}
-use Rattle.flat_model.specs.Properties.{Differ, AreDistinct, IsOwn, IsTimedOut, AnswerStands, EndStands, Once, reply_in_history}
-use Rattle.flat_model.specs.Ranges.{is_typed}
-use Rattle.flat_model.specs.Handling.{Handling, Repeats, RefusesForNow, Executes, Looks}
-use Rattle.flat_model.specs.Events.{record_of, handled, on_judged, on_polled, on_flight, on_item, on_items, effect, account, account_from, keep_all}
-use Rattle.account_laws.specs.Flights.{FlightOf}
+use Rattle.flat_model.specs.Account.{Account, Line, Frame, Carried, Answers, Effect, says, joined_by, extended, now, frame_at, with_entry, memory_at, nothing_yet}
+use Rattle.flat_model.specs.Client.{Standing, ClientCall, ClientPart, Finished, Sending, GivesUp, EndsFence, same_client, same_part, emptied, call_standing, standing_so, parts_named, call_changed, given_up, answered, every, ending_of, all_over, finished, finished_with, told, end_told}
+use Rattle.flat_model.specs.Clients.{issued, call_at, first_sent, moments_sent, texts_on, texts_with, part_end, PartEnd, TookFrame, GaveUpAt, end_of_part, ending, ending_by, replied, standing, standing_at, client_at}
+use Rattle.flat_model.specs.Properties.{Differ, AreDistinct, IsTimedOut, EndStands, reply_in_history}
+use Rattle.flat_model.specs.Events.{record_of, on_polled, on_flight, on_item, on_items, effect, account, account_from, keep_all}
 use Rattle.account_laws.specs.Histories.{LawOfParts}
 use Rattle.account_laws.specs.Schedules.{IsRisingFrom, AreTyped}
-use Rattle.account_laws.proofs.Lists.{each_append, each_weaker, each_map, each_first, each_flat_map, each_filter_from, each_filter_map_from, option_map_some, and_then_some}
+use Rattle.account_laws.proofs.Lists.{each_append, each_weaker, each_map, each_first, each_flat_map, each_filter_map_from, option_map_some, and_then_some}
 use Rattle.account_laws.proofs.SameParts.{same_refl, same_is}
 use Rattle.account_laws.proofs.Items.{items_texts}
-use Rattle.account_laws.proofs.Standings.{texts_extended, frame_kept, ending_by_kept, end_kept, standing_given_up, standing_answered}
+use Rattle.account_laws.proofs.Standings.{frame_kept, ending_by_kept, end_kept, standing_given_up, standing_answered}
 use Rattle.account_laws.proofs.CallsOfClient.{call_so, map_map}
 use Rattle.account_laws.proofs.StateRead.{CallOf, calls_are}
-use Rattle.account_laws.proofs.Cases.{IsQuiet, IsGiven, Cases, peek_is_quiet, effect_by}
+use Rattle.account_laws.proofs.Cases.{IsQuiet, Cases, peek_is_quiet, effect_by}
 use Rattle.account_laws.proofs.TimesKept.{frame_at_each}
 use Rattle.account_laws.proofs.Fences.{Followed}
-use Rattle.account_laws.proofs.PartsOnce.{is_over, HasEntry, IsEntry, ReplyStands, PartsOnce}
+use Rattle.account_laws.proofs.PartsOnce.{HasEntry, IsEntry, ReplyStands, PartsOnce}
 use Rattle.account_laws.proofs.Parts.{call_kept}
 use Rattle.account_laws.proofs.OnceKept.{has_kept_all, has_new, part_by_orig, Base, base_later, base_next, base_nothing}
 use Rattle.account_laws.proofs.Answered.{TookFrom, TookIs, CallEnded, EndIs, Answered}

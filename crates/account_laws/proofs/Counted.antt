@@ -1,5 +1,5 @@
 -- The bytes that an answer's length counts are those of the replies.
-use Rattle.std.proofs.Common.{◌≡◌, ℕ, zero, suc, ◌+◌, ◌-◌, List, [], ◌∷◌, ◌++◌, refl, ap, ◌∙◌, sym, subst, Some, None, Option, length, take, arith, ◌⊎◌, inl, inr, ⊎_elim}
+use Rattle.std.proofs.Common.{◌≡◌, ℕ, ◌-◌, List, [], ◌∷◌, ◌++◌, refl, ap, ◌∙◌, sym, subst, Some, None, length, take, arith, ◌⊎◌, inl, inr, ⊎_elim}
 use Rattle.std.proofs.Math.Seq.{take-append_seam}
 use Rattle.cl_types.specs.Bytes.{zeros}
 use Rattle.cl_types.specs.declared.call.Call.{Call}
@@ -10,7 +10,7 @@ use Rattle.cl_types.specs.declared.reply.Refusal.{Refusal}
 use Rattle.cl_types.specs.declared.reply.Reply.TheVariants as reply
 use Rattle.cl_types.specs.declared.reply.Value.{Value}
 use Rattle.cl_types.specs.declared.reply.Value.TheVariants as value
-use Rattle.flat_model.specs.Cut.{Ending, Replied, GivenUp, first_given_up, first_refusal, joined, only_value, done_value, first_answer, combine, answer_bytes, filled, handed_back}
+use Rattle.flat_model.specs.Cut.{Ending, Replied, GivenUp, first_given_up, first_refusal, joined, only_value, first_answer, combine, answer_bytes, filled, handed_back}
 use Rattle.flat_model.specs.Client.{emptied, counted, buffer_of}
 
 -- ---- what an answer is

@@ -1,9 +1,9 @@
 -- An issued call is cut into requests in their ranges.
-use Rattle.std.proofs.Common.{◌≡◌, ℕ, zero, suc, ◌+◌, ◌-◌, ◌*◌, ◌/◌, ◌%◌, ◌<◌, ◌≤◌, List, [], ◌∷◌, ◌++◌, refl, ap, ◌∙◌, sym, Bool, true, false, cond, arith, Some, None, length, take, drop}
+use Rattle.std.proofs.Common.{◌≡◌, ℕ, zero, suc, ◌+◌, ◌-◌, ◌*◌, ◌/◌, ◌%◌, ◌<◌, ◌≤◌, List, [], ◌∷◌, ◌++◌, refl, Bool, true, false, cond, arith, Some, None, length, take, drop}
 use Rattle.std.specs.Prelude.{leb, nat_lt, ◌==◌, ◌&&◌, ◌^◌, not, replicate}
 use Rattle.std.specs.List.{AllByRecursion as Each, list_all, concat}
 use Rattle.std.proofs.lemmas.Bool.Decides.{nat_tests}
-use Rattle.std.proofs.lemmas.List.{length-take, length-drop, length-replicate}
+use Rattle.std.proofs.lemmas.List.{length-take, length-drop}
 use Rattle.cl_types.specs.Bytes.{bytes_at, zeros}
 use Rattle.cl_types.specs.declared.limits.TheConstants.{ADDRESS_END, CALL_BYTES, HELD_CALLS, PAGE_BYTES, PART_BYTES, RANGE_PAGES, SPACE_PAGES}
 use Rattle.cl_types.specs.declared.numbers.Addr.{Addr}

@@ -7,7 +7,7 @@ use Rattle.cl_types.specs.Requests.{is_changing}
 use Rattle.flat_model.specs.State.{FlatState, opening}
 use Rattle.flat_model.specs.Ranges.{is_in_range}
 use Rattle.flat_model.specs.Step.{MayReply}
-use Rattle.flat_model.specs.Run.{Step, after, after_entry, IsRunFrom}
+use Rattle.flat_model.specs.Run.{after, after_entry, IsRunFrom}
 use Rattle.flat_model.specs.Account.{with_entry, with_entries, is_before, memory_at}
 use Rattle.std.specs.List.{AllByRecursion as Each}
 use Rattle.flat_model.specs.Properties.{IsInOrder}

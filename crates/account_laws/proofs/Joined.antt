@@ -1,7 +1,6 @@
 -- How the entries and frames of an effect join an account that is a run.
 use Rattle.std.proofs.Common.{◌≡◌, ℕ, ◌+◌, ◌<◌, List, [], ◌∷◌, refl, sym, ap, ◌∙◌, subst, true, inl, inr}
 use Rattle.cl_types.specs.declared.config.Config.{Config}
-use Rattle.cl_types.specs.declared.line.Did.{Did}
 use Rattle.cl_types.specs.declared.line.Entry.{Entry}
 use Rattle.cl_types.specs.declared.schedule.Event.{Event}
 use Rattle.cl_types.specs.declared.schedule.Event.TheVariants as event

@@ -34,3 +34,5 @@ pub mod Window
 pub mod WindowKept
 pub mod StandsKept
 pub mod SpanKept
+pub mod Pieces
+pub mod LocksKept

@@ -1,23 +1,21 @@
 -- What an event leaves of moments and first sendings.
-use Rattle.std.proofs.Common.{◌≡◌, ℕ, ◌+◌, ◌<◌, ◌≤◌, List, [], ◌∷◌, ◌++◌, refl, ap, ◌∙◌, Some, None, Option, Bool, true, false, cond, arith}
-use Rattle.std.specs.Prelude.{filter, filter_map, flat_map, sum_by, nat_lt}
+use Rattle.std.proofs.Common.{◌≡◌, ℕ, ◌+◌, ◌<◌, ◌≤◌, List, [], ◌∷◌, ◌++◌, refl, ap, ◌∙◌, Some, None, Bool, true, false, cond, arith}
+use Rattle.std.specs.Prelude.{filter, filter_map, sum_by, nat_lt}
 use Rattle.std.proofs.lemmas.List.{append-nil}
 use Rattle.std.proofs.lemmas.List.Elements.{filter-append}
 use Rattle.std.proofs.lemmas.List.Sums.{sum_by-append}
-use Rattle.std.proofs.lemmas.Grind.{flat_map-append}
 use Rattle.std.proofs.lemmas.Bool.Decides.{nat_tests}
 use Rattle.cl_types.specs.declared.numbers.ClientNo.{ClientNo}
 use Rattle.cl_types.specs.declared.reply.Part.{Part}
 use Rattle.cl_types.specs.declared.line.Did.{Did}
 use Rattle.cl_types.specs.declared.line.Did.TheVariants as did
-use Rattle.cl_types.specs.declared.line.Entry.{Entry}
 use Rattle.cl_types.specs.declared.schedule.Event.{Event}
-use Rattle.flat_model.specs.Account.{Account, Line, Effect, ticks_of, now, extended, with_entry, with_entries, is_before}
+use Rattle.flat_model.specs.Account.{Account, Line, Effect, ticks_of, now, extended}
 use Rattle.flat_model.specs.Clients.{first_sent, first_sending, first_of, texts_with, texts_on}
 use Rattle.std.specs.List.{AllByRecursion as Each}
 use Rattle.account_laws.specs.Times.{clock, FirstAt}
 use Rattle.account_laws.proofs.Standings.{line_of, texts_extended}
-use Rattle.account_laws.proofs.Lists.{each_flat_map, each_append, each_first, each_filter_map, first_of-append, first_of-append_none}
+use Rattle.account_laws.proofs.Lists.{each_flat_map, each_first, each_filter_map, first_of-append, first_of-append_none}
 
 -- ---- time
 none_later : (line : Line) (m l : ℕ) → line.number ≡ l → m ≤ l → filter (λ (x : Line). nat_lt x.number m) (line ∷ []) ≡ []

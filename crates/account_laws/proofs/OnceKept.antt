@@ -1,12 +1,11 @@
 -- Each event keeps that no part has two entries, and that each entry is its part's own.
-use Rattle.std.proofs.Common.{◌≡◌, ℕ, zero, suc, ◌+◌, ◌≤◌, List, [], ◌∷◌, ◌++◌, refl, sym, ap, ◌∙◌, subst, Bool, true, false, cond, arith, Some, None, Option, inl, inr}
+use Rattle.std.proofs.Common.{◌≡◌, ℕ, suc, ◌+◌, ◌≤◌, List, [], ◌∷◌, ◌++◌, refl, sym, ap, ◌∙◌, subst, Bool, true, false, cond, arith, Some, None, Option, inl, inr}
 use Rattle.std.specs.Prelude.{find, filter, filter_map, is_some, ◌&&◌}
 use Rattle.std.specs.List.{AllByRecursion as Each}
 use Rattle.cl_types.specs.Requests.{is_changing}
 use Rattle.cl_types.specs.declared.config.Config.{Config}
 use Rattle.cl_types.specs.declared.frame.Head.{Head}
 use Rattle.cl_types.specs.declared.numbers.ClientNo.{ClientNo}
-use Rattle.cl_types.specs.declared.request.Request.{Request}
 use Rattle.cl_types.specs.declared.reply.Part.{Part}
 use Rattle.cl_types.specs.declared.reply.Reply.{Reply}
 use Rattle.cl_types.specs.declared.line.Did.{Did}
@@ -18,11 +17,11 @@ use Rattle.flat_model.specs.State.{FlatState}
 use Rattle.flat_model.specs.Run.{changing_of}
 use Rattle.flat_model.specs.Account.{Account, Frame, Carried, Load, Asks, Answers, items_of, if_taken_of, Effect, says, joined_by, extended, now, is_before, with_entry, with_entries, memory_at, recorded, entries_before, next_frame_number, nothing_yet}
 use Rattle.flat_model.specs.Client.{ClientPart, Sending, GivesUp, EndsFence, Sends, same_client, same_part, again, anew, next_id}
-use Rattle.flat_model.specs.Clients.{request_of_part, first_sent, first_sending, first_of, texts_with, part_end, TookFrame, sendings, pid_of, client_at}
+use Rattle.flat_model.specs.Clients.{request_of_part, first_sent, first_sending, first_of, texts_with, part_end, TookFrame, pid_of, client_at}
 use Rattle.flat_model.specs.Handling.{Handling, Repeats, RefusesForNow, Executes, Looks, item_outcome}
 use Rattle.flat_model.specs.Properties.{Differ, AreDistinct}
 use Rattle.flat_model.specs.Ranges.{is_typed}
-use Rattle.flat_model.specs.Events.{record_of, entry_of, handled, item_handling, on_judged, on_polled, on_flight, on_item, on_items, then_also, effect, account_from, keep_all}
+use Rattle.flat_model.specs.Events.{record_of, entry_of, handled, item_handling, on_polled, on_flight, on_item, on_items, then_also, effect, account_from, keep_all}
 use Rattle.account_laws.specs.Flights.{FlightOf}
 use Rattle.account_laws.specs.Schedules.{IsRisingFrom, AreTyped}
 use Rattle.account_laws.proofs.Lists.{each_append, each_weaker, each_weaker_with, each_with_entry, each_with_entries, first_of-append_none}
@@ -30,13 +29,13 @@ use Rattle.account_laws.proofs.SameParts.{contrary, same_refl, same_is}
 use Rattle.account_laws.proofs.Items.{Tells, handling_tells, items_texts}
 use Rattle.account_laws.proofs.Standings.{texts_extended}
 use Rattle.account_laws.proofs.StateRead.{SendableOf}
-use Rattle.account_laws.proofs.Cases.{IsQuiet, IsGiven, Cases, peek_is_quiet, effect_by}
+use Rattle.account_laws.proofs.Cases.{Cases, peek_is_quiet, effect_by}
 use Rattle.account_laws.proofs.Fences.{Followed, followed_next, followed_nothing}
 use Rattle.account_laws.proofs.Insert.{all_before}
 use Rattle.account_laws.proofs.Ran.{InRange, Ran}
 use Rattle.account_laws.proofs.RunKept.{item_runs, with_entries-append, ran_later, ran_next, ran_nothing}
 use Rattle.account_laws.proofs.TimesKept.{frame_at_each, sent_is_read, Times, times_later, times_next, times_nothing}
-use Rattle.account_laws.proofs.PartsOnce.{is_over, Owned, ItemOwned, EntryOwned, IsEntry, HasEntry, ReplyStands, Ids, PartsOnce}
+use Rattle.account_laws.proofs.PartsOnce.{is_over, ItemOwned, EntryOwned, IsEntry, HasEntry, ReplyStands, Ids, PartsOnce}
 use Rattle.account_laws.proofs.Parts.{request_kept, is_over_kept, owned_kept, not_over, NotSent, quiet_not_sent, ids_quiet, ids_sent}
 use Rattle.account_laws.proofs.Induction.{past, of_account}
 

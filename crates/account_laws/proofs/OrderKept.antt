@@ -1,5 +1,5 @@
 -- Each event keeps dependent calls in order of issue.
-use Rattle.std.proofs.Common.{◌≡◌, ℕ, zero, suc, ◌+◌, ◌-◌, ◌<◌, ◌≤◌, List, [], ◌∷◌, ◌++◌, refl, sym, ap, ◌∙◌, subst, Bool, true, false, cond, arith, Some, None, Option, inl, inr}
+use Rattle.std.proofs.Common.{◌≡◌, ℕ, ◌+◌, ◌-◌, ◌<◌, ◌≤◌, List, [], ◌∷◌, ◌++◌, refl, sym, ap, ◌∙◌, subst, Bool, true, false, cond, arith, Some, None, Option, inl, inr}
 use Rattle.std.specs.Prelude.{is_some, ◌&&◌}
 use Rattle.std.specs.List.{AllByRecursion as Each}
 use Rattle.std.proofs.lemmas.Bool.Decides.{nat_tests}
@@ -18,11 +18,10 @@ use Rattle.cl_types.specs.declared.schedule.Event.{Event}
 use Rattle.cl_types.specs.declared.schedule.Event.TheVariants as event
 use Rattle.flat_model.specs.State.{FlatState}
 use Rattle.flat_model.specs.Account.{Account, Line, Frame, Carried, Load, Asks, Answers, Effect, says, joined_by, extended, now, is_live, frame_at, is_before, with_entry, with_entries, items_of, if_taken_of, memory_at, recorded, next_frame_number, nothing_yet}
-use Rattle.flat_model.specs.Client.{ClientPart, Sending, GivesUp, EndsFence, Sends, same_client, same_part, again, anew, next_id}
+use Rattle.flat_model.specs.Client.{Sending, GivesUp, EndsFence, Sends, same_client, same_part, again, anew, next_id}
 use Rattle.flat_model.specs.Clients.{first_sent, request_of_part, part_end, PartEnd, TookFrame, GaveUpAt, end_of_part, texts_with, texts_on, client_at}
 use Rattle.flat_model.specs.Handling.{Handling, Repeats, RefusesForNow, Executes, Looks, item_outcome}
-use Rattle.flat_model.specs.Properties.{Differ, AreDistinct, DependsOn, Precedes, Ordered}
-use Rattle.flat_model.specs.Ranges.{is_typed}
+use Rattle.flat_model.specs.Properties.{Differ, AreDistinct, Precedes}
 use Rattle.flat_model.specs.Events.{entry_of, handled, item_handling, on_judged, on_polled, on_flight, on_item, on_items, effect, account, account_from, keep_all}
 use Rattle.account_laws.specs.Flights.{FlightOf}
 use Rattle.account_laws.specs.Histories.{LawOfOrder}
@@ -32,13 +31,11 @@ use Rattle.account_laws.proofs.Lists.{each_append, each_weaker, each_weaker_with
 use Rattle.account_laws.proofs.SameParts.{contrary, same_is}
 use Rattle.account_laws.proofs.Moments.{now_clock}
 use Rattle.account_laws.proofs.Items.{Tells, handling_tells, items_texts}
-use Rattle.account_laws.proofs.StateRead.{SendableOf}
 use Rattle.account_laws.proofs.Cases.{IsQuiet, IsGiven, Cases, peek_is_quiet, effect_by}
 use Rattle.account_laws.proofs.TimesKept.{SentYoung, OldAt, GivesUpOld, Times, first_same, frame_at_each}
 use Rattle.account_laws.proofs.Ran.{InRange, Ran}
 use Rattle.account_laws.proofs.RunKept.{item_runs, joined_twice}
-use Rattle.account_laws.proofs.Fences.{Followed}
-use Rattle.account_laws.proofs.PartsOnce.{is_over, Owned, ItemOwned, EntryOwned, IsEntry, HasEntry, ReplyStands, PartsOnce}
+use Rattle.account_laws.proofs.PartsOnce.{is_over, ItemOwned, EntryOwned, IsEntry, HasEntry, ReplyStands, PartsOnce}
 use Rattle.account_laws.proofs.Parts.{request_kept, not_over, NotSent, quiet_not_sent}
 use Rattle.account_laws.proofs.OnceKept.{ItemsOnce, item_once, items_once, has_kept_all, unrecorded, part_by_orig, Base, base_later, base_next, base_nothing}
 use Rattle.account_laws.proofs.Settled.{Settled, depends_before, settled_quiet, settled_sent}

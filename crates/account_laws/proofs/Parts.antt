@@ -1,6 +1,6 @@
 -- Parts, their requests and their ids, as an account grows.
 use Rattle.std.proofs.Common.{◌≡◌, ℕ, zero, suc, ◌+◌, ◌≤◌, List, [], ◌∷◌, ◌++◌, refl, sym, ap, ◌∙◌, subst, Bool, true, false, cond, arith, Some, None, Option, ◌⊎◌, inl, inr, ⊎_elim}
-use Rattle.std.specs.Prelude.{filter_map, is_some, slice_get, option_and_then, count_by, ◌&&◌}
+use Rattle.std.specs.Prelude.{filter_map, is_some, option_and_then, count_by, ◌&&◌}
 use Rattle.std.specs.List.{AllByRecursion as Each, cons_option}
 use Rattle.std.proofs.lemmas.List.Elements.{filter_map-append}
 use Rattle.cl_types.specs.declared.numbers.ClientNo.{ClientNo}

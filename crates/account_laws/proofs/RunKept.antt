@@ -1,9 +1,8 @@
 -- Each event keeps the history a run.
 use Rattle.std.proofs.Common.{◌≡◌, ℕ, zero, suc, ◌+◌, ◌<◌, ◌≤◌, List, [], ◌∷◌, ◌++◌, refl, sym, ap, ◌∙◌, subst, Bool, true, false, cond, arith, Some, None, Option}
-use Rattle.std.specs.Prelude.{◌&&◌, ◌||◌, slice_get, option_and_then}
-use Rattle.std.specs.List.{AllByRecursion as Each, list_any, cons_option}
+use Rattle.std.specs.Prelude.{◌&&◌, ◌||◌}
+use Rattle.std.specs.List.{AllByRecursion as Each, list_any}
 use Rattle.std.proofs.lemmas.List.{append_assoc}
-use Rattle.cl_types.specs.Requests.{is_changing}
 use Rattle.cl_types.specs.declared.numbers.Addr.{Addr}
 use Rattle.cl_types.specs.declared.numbers.ClientNo.{ClientNo}
 use Rattle.cl_types.specs.declared.call.Call.{Call}
@@ -19,12 +18,12 @@ use Rattle.cl_types.specs.declared.line.Entry.{Entry}
 use Rattle.flat_model.specs.Cut.{cut}
 use Rattle.flat_model.specs.Issue.{issue_fault}
 use Rattle.flat_model.specs.Ranges.{is_typed}
-use Rattle.flat_model.specs.Account.{Account, Line, Frame, Carried, Load, Asks, Answers, items_of, if_taken_of, Effect, says, joined_by, extended, is_before, with_entry, with_entries, memory_at, recorded, next_frame_number, nothing_yet}
-use Rattle.flat_model.specs.Client.{Sending, Outgoing, GivesUp, EndsFence, Sends, same_client, again, anew, next_id}
+use Rattle.flat_model.specs.Account.{Account, Line, Frame, Carried, Load, items_of, if_taken_of, Effect, says, joined_by, extended, is_before, with_entry, with_entries, memory_at, recorded, next_frame_number, nothing_yet}
+use Rattle.flat_model.specs.Client.{Outgoing, GivesUp, EndsFence, Sends, same_client, again, anew, next_id}
 use Rattle.flat_model.specs.Clients.{call_of, call_at, part_request, request_of_part, issued, issued_on, says_issued, client_at}
 use Rattle.flat_model.specs.Handling.{Handling, Repeats, RefusesForNow, Executes, Looks, item_outcome}
-use Rattle.flat_model.specs.Properties.{is_delivery, ShowsMemory}
-use Rattle.flat_model.specs.Events.{entry_of, handled, item_handling, on_peek, on_judged, on_polled, on_flight, on_item, on_items, then_also, effect, next_account, account_from, keep_all}
+use Rattle.flat_model.specs.Properties.{ShowsMemory}
+use Rattle.flat_model.specs.Events.{entry_of, handled, item_handling, on_peek, on_judged, on_polled, on_flight, on_item, on_items, then_also, effect, account_from, keep_all}
 use Rattle.account_laws.specs.Schedules.{IsRisingFrom, AreTyped}
 use Rattle.account_laws.specs.Runs.{LawOfRuns}
 use Rattle.account_laws.proofs.Lists.{each_append, each_weaker, each_filter_map_from, each_slice_get, and_then_some}
@@ -33,7 +32,7 @@ use Rattle.account_laws.proofs.Places.{before_next, before_line, before_from_lin
 use Rattle.account_laws.proofs.Ran.{InRange, IssuesGood, LookOf, Ran}
 use Rattle.account_laws.proofs.Joined.{Grown, all_taken, executed, ran_joined}
 use Rattle.account_laws.proofs.CutRanges.{cut_in_range}
-use Rattle.account_laws.proofs.Cases.{IsQuiet, IsNoPeek, IsGiven, Cases, delivery_no_peek, peek_is_quiet, effect_by}
+use Rattle.account_laws.proofs.Cases.{IsQuiet, IsNoPeek, Cases, delivery_no_peek, peek_is_quiet, effect_by}
 use Rattle.account_laws.proofs.Items.{items_texts, Tells, handling_tells}
 use Rattle.account_laws.proofs.TimesKept.{frame_at_each}
 use Rattle.account_laws.proofs.Induction.{past, of_account}

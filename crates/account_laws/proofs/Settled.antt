@@ -1,7 +1,7 @@
 -- A part is sent only when every part of the calls on which its call depends is over.
 use Rattle.std.proofs.Common.{◌≡◌, ℕ, zero, suc, ◌+◌, ◌-◌, ◌<◌, ◌≤◌, List, [], ◌∷◌, ◌++◌, refl, sym, ap, ◌∙◌, subst, Bool, true, false, cond, arith, Some, None, Option, length, map, take, drop, ◌⊎◌, inl, inr, ⊎_elim}
 use Rattle.std.specs.Prelude.{filter_map, is_some, slice_get, option_map, option_and_then, ◌||◌}
-use Rattle.std.specs.List.{AllByRecursion as Each, list_any, slice_range, enumerate_from}
+use Rattle.std.specs.List.{AllByRecursion as Each, list_any, slice_range}
 use Rattle.std.proofs.lemmas.List.{take-append-le, drop-append-le, length-drop}
 use Rattle.std.proofs.lemmas.List.Elements.{filter_map-append}
 use Rattle.cl_types.specs.declared.config.Config.{Config}
@@ -10,7 +10,6 @@ use Rattle.cl_types.specs.declared.call.Call.{Call}
 use Rattle.cl_types.specs.declared.call.Call.TheVariants as call
 use Rattle.cl_types.specs.declared.request.Request.{Request}
 use Rattle.cl_types.specs.declared.reply.Part.{Part}
-use Rattle.cl_types.specs.declared.line.Did.{Did}
 use Rattle.cl_types.specs.declared.line.Did.TheVariants as did
 use Rattle.cl_types.specs.declared.schedule.Event.{Event}
 use Rattle.flat_model.specs.Cut.{Ending, cut}
@@ -24,7 +23,7 @@ use Rattle.account_laws.proofs.Lists.{slice_get-append, and_then_some, option_ma
 use Rattle.account_laws.proofs.SameParts.{contrary}
 use Rattle.account_laws.proofs.Standings.{line_of}
 use Rattle.account_laws.proofs.StateRead.{SendableOf}
-use Rattle.account_laws.proofs.Premises.{call_at_within, slice_get_within, none_some}
+use Rattle.account_laws.proofs.Premises.{call_at_within, none_some}
 use Rattle.account_laws.proofs.Fences.{Followed, runs_not, standing_calls}
 use Rattle.account_laws.proofs.ReadyCalls.{print_emptied, goes_waits}
 use Rattle.account_laws.proofs.Readiness.{ready_means}

@@ -1,16 +1,14 @@
 -- The law of the span, by the node that keeps all.
 use Rattle.std.proofs.Common.{◌≡◌, ℕ, zero, suc, ◌+◌, ◌-◌, ◌<◌, ◌≤◌, List, [], ◌∷◌, ◌++◌, refl, sym, ap, ◌∙◌, subst, Bool, true, false, cond, arith, Some, None, Option, length, map, drop, append_assoc}
-use Rattle.std.specs.Prelude.{find, option_map, slice_get, ◌||◌}
+use Rattle.std.specs.Prelude.{option_map, slice_get, ◌||◌}
 use Rattle.std.specs.List.{AllByRecursion as Each, list_any}
 use Rattle.std.proofs.lemmas.List.{append-nil, map-append}
 use Rattle.cl_types.specs.Requests.{is_changing}
 use Rattle.cl_types.specs.declared.frame.BadFrame.{BadFrame}
-use Rattle.cl_types.specs.declared.frame.How.TheVariants.{Executed, Repeated, Looked}
 use Rattle.cl_types.specs.declared.limits.TheConstants.{SPAN}
-use Rattle.cl_types.specs.declared.reply.Reply.{Reply}
-use Rattle.flat_model.specs.Frames.{Item, items_in, request_fault}
+use Rattle.flat_model.specs.Frames.{Item, request_fault}
 use Rattle.flat_model.specs.Handling.{Handling, Repeats, RefusesForNow, Executes, Looks, handling, item_outcome, latest, oldest_of}
-use Rattle.flat_model.specs.Nodes.{Name, Record, Node, Said, Gives, IsBusy, NodeStep, NodeAnswer, Refuses, Says, name_of, same_name, record_named, handles, step_item, node_after, said_to, items_judged, items_read, answer_judged, node_answer, node_given, keep_every, keeping, ideal}
+use Rattle.flat_model.specs.Nodes.{Name, Record, Node, NodeStep, Says, name_of, same_name, record_named, handles, node_after, said_to, items_judged, items_read, answer_judged, node_answer, node_given, keep_every, keeping, ideal}
 use Rattle.account_laws.specs.Span.{Given, answers_to, if_executed, executed_in, executed_over, AreInTime, IsInSpan, AreInSpan, KeepSpan, IsSetUp, AreNew, LawOfSpan}
 use Rattle.account_laws.proofs.Lists.{each_append, each_weaker}
 use Rattle.account_laws.proofs.Items.{HandledBy, handled_by}

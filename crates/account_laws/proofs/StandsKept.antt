@@ -1,5 +1,5 @@
 -- Each event keeps each entry at a delivery of its own frame.
-use Rattle.std.proofs.Common.{◌≡◌, ℕ, zero, suc, ◌+◌, ◌<◌, ◌≤◌, List, [], ◌∷◌, ◌++◌, refl, sym, ap, ◌∙◌, subst, Bool, true, false, arith, Some, None, Option, length, length-append}
+use Rattle.std.proofs.Common.{◌≡◌, ℕ, zero, suc, ◌+◌, ◌<◌, List, [], ◌∷◌, ◌++◌, refl, sym, ap, ◌∙◌, subst, true, false, arith, Some, length, length-append}
 use Rattle.std.specs.Prelude.{slice_get, Contains}
 use Rattle.std.specs.List.{AllByRecursion as Each}
 use Rattle.std.proofs.lemmas.List.Elements.{Contains-append_left, Contains-push}
@@ -19,14 +19,12 @@ use Rattle.cl_types.specs.declared.schedule.Event.{Event}
 use Rattle.cl_types.specs.declared.schedule.Event.TheVariants as event
 use Rattle.flat_model.specs.State.{FlatState}
 use Rattle.flat_model.specs.Frames.{status_in}
-use Rattle.flat_model.specs.Account.{Account, Line, Frame, Carried, Load, Asks, Answers, Effect, says, joined_by, extended, now, is_live, frame_at, is_before, with_entry, with_entries, items_of, if_taken_of, memory_at, recorded, entries_before, next_frame_number, nothing_yet}
-use Rattle.flat_model.specs.Client.{Sending, GivesUp, EndsFence, Sends, again, anew, next_id}
+use Rattle.flat_model.specs.Account.{Account, Line, Frame, Carried, Load, Asks, Answers, Effect, says, joined_by, extended, is_live, frame_at, is_before, with_entries, items_of, if_taken_of, memory_at, recorded, entries_before, next_frame_number, nothing_yet}
+use Rattle.flat_model.specs.Client.{Sending}
 use Rattle.flat_model.specs.Clients.{request_of_part, client_at}
 use Rattle.flat_model.specs.Handling.{Handling, Repeats, RefusesForNow, Executes, Looks, item_outcome}
-use Rattle.flat_model.specs.Properties.{is_delivery, CarriesPart, Handles, IsFirst, IsTaken, StandsAt, Stands, Differ, AreDistinct}
-use Rattle.flat_model.specs.Ranges.{is_typed}
-use Rattle.flat_model.specs.Events.{entry_of, handled, item_handling, on_judged, on_polled, on_flight, on_item, on_items, effect, account, account_from, keep_all}
-use Rattle.account_laws.specs.Flights.{FlightOf}
+use Rattle.flat_model.specs.Properties.{is_delivery, CarriesPart, Handles, IsFirst, StandsAt, Differ, AreDistinct}
+use Rattle.flat_model.specs.Events.{entry_of, handled, item_handling, on_flight, on_item, on_items, effect, account, account_from, keep_all}
 use Rattle.account_laws.specs.Histories.{LawOfStands}
 use Rattle.account_laws.specs.Schedules.{IsRisingFrom, AreTyped}
 use Rattle.account_laws.proofs.Lists.{each_append, each_weaker, each_weaker_with, each_with_entries}

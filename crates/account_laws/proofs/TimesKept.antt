@@ -1,6 +1,6 @@
 -- The law of times, as an account grows.
-use Rattle.std.proofs.Common.{◌≡◌, ℕ, zero, suc, ◌+◌, ◌-◌, ◌<◌, ◌≤◌, List, [], ◌∷◌, refl, sym, ap, subst, Some, None, Option, Bool, true, false, arith}
-use Rattle.std.specs.Prelude.{filter_map, ◌&&◌, leb}
+use Rattle.std.proofs.Common.{◌≡◌, ℕ, zero, suc, ◌+◌, ◌-◌, ◌<◌, ◌≤◌, List, [], ◌∷◌, refl, subst, Some, true, false, arith}
+use Rattle.std.specs.Prelude.{filter_map, leb}
 use Rattle.std.specs.List.{AllByRecursion as Each}
 use Rattle.std.proofs.lemmas.Bool.Decides.{nat_tests}
 use Rattle.cl_types.specs.declared.config.Config.{Config}
@@ -15,14 +15,14 @@ use Rattle.cl_types.specs.declared.schedule.Event.{Event}
 use Rattle.cl_types.specs.declared.schedule.Event.TheVariants as event
 use Rattle.flat_model.specs.State.{FlatState}
 use Rattle.flat_model.specs.Account.{Account, Line, Frame, Carried, Load, Asks, items_of, if_taken_of, Effect, says, joined_by, now, extended, next_frame_number, is_live, frame_at, memory_at, nothing_yet}
-use Rattle.flat_model.specs.Client.{ClientPart, Sending, Outgoing, GivesUp, EndsFence, Sends, again, anew, next_id, is_old, is_due}
+use Rattle.flat_model.specs.Client.{ClientPart, Sending, GivesUp, Sends, again, anew, next_id, is_old, is_due}
 use Rattle.flat_model.specs.Clients.{first_of, first_sending, first_sent, client_at}
 use Rattle.flat_model.specs.Handling.{Handling, Repeats, RefusesForNow, Executes, Looks}
-use Rattle.flat_model.specs.Events.{entry_of, handled, then_also, on_judged, on_polled, on_flight, on_item, on_items, effect, next_account, account_from, keep_all}
+use Rattle.flat_model.specs.Events.{entry_of, handled, then_also, on_polled, on_flight, on_item, on_items, effect, next_account, account_from, keep_all}
 use Rattle.flat_model.specs.Properties.{CarriesPart}
 use Rattle.account_laws.specs.Flights.{FlightOf}
 use Rattle.account_laws.specs.Schedules.{IsRisingFrom}
-use Rattle.account_laws.specs.Times.{clock, FirstAt, OfAge, GoneFrom, IsSpent, AreOfAge, LawOfTimes}
+use Rattle.account_laws.specs.Times.{clock, FirstAt, OfAge, GoneFrom, AreOfAge, LawOfTimes}
 use Rattle.account_laws.proofs.Lists.{each_append, each_weaker, each_slice_get, each_with_entries}
 use Rattle.account_laws.proofs.SameParts.{and_right, eqb_same}
 use Rattle.account_laws.proofs.Moments.{now_kept, now_clock, clock_extended, first_kept, first_new, first_not_after}

@@ -1,6 +1,6 @@
 -- Each event keeps the changing entries spaced, so the latest tell of a live frame what all tell.
-use Rattle.std.proofs.Common.{◌≡◌, ℕ, zero, suc, ◌+◌, ◌-◌, ◌<◌, ◌≤◌, List, [], ◌∷◌, ◌++◌, refl, sym, ap, ◌∙◌, subst, Bool, true, false, cond, arith, Some, None, Option, length, ◌⊎◌, inl, inr, ⊎_elim}
-use Rattle.std.specs.Prelude.{filter, find, nat_lt, option_map, slice_get, sum_by, ◌&&◌}
+use Rattle.std.proofs.Common.{◌≡◌, ℕ, suc, ◌+◌, ◌-◌, ◌<◌, ◌≤◌, List, [], ◌∷◌, ◌++◌, refl, sym, ap, ◌∙◌, subst, Bool, true, false, cond, arith, Some, None, Option}
+use Rattle.std.specs.Prelude.{filter, nat_lt, option_map, sum_by, ◌&&◌}
 use Rattle.std.specs.List.{AllByRecursion as Each}
 use Rattle.std.proofs.lemmas.Bool.Decides.{nat_tests}
 use Rattle.std.proofs.lemmas.List.Elements.{filter-append}
@@ -10,7 +10,6 @@ use Rattle.cl_types.specs.declared.config.Config.{Config}
 use Rattle.cl_types.specs.declared.limits.TheConstants.{LAST_RESEND, SPAN}
 use Rattle.cl_types.specs.declared.numbers.ClientNo.{ClientNo}
 use Rattle.cl_types.specs.declared.reply.Part.{Part}
-use Rattle.cl_types.specs.declared.reply.Reply.{Reply}
 use Rattle.cl_types.specs.declared.line.Entry.{Entry}
 use Rattle.cl_types.specs.declared.line.Did.TheVariants as did
 use Rattle.cl_types.specs.declared.schedule.Event.{Event}
@@ -19,22 +18,21 @@ use Rattle.flat_model.specs.State.{FlatState}
 use Rattle.flat_model.specs.Run.{changing_of}
 use Rattle.flat_model.specs.Account.{Account, Line, Frame, Carried, Load, Asks, Answers, Effect, says, frame_at, taken_in_order, joined_by, extended, now, ticks_of, is_live, is_before, items_of, if_taken_of, with_entry, with_entries, memory_at, recorded, nothing_yet}
 use Rattle.flat_model.specs.Client.{same_client, same_part}
-use Rattle.flat_model.specs.Clients.{first_sent, client_at}
-use Rattle.flat_model.specs.Handling.{Handling, Repeats, RefusesForNow, Executes, Looks, handling, item_outcome, is_young, latest, oldest_of}
+use Rattle.flat_model.specs.Handling.{Handling, Repeats, RefusesForNow, Executes, Looks, handling, item_outcome, latest}
 use Rattle.flat_model.specs.Properties.{CarriesPart}
 use Rattle.flat_model.specs.Ranges.{is_typed}
-use Rattle.flat_model.specs.Events.{record_of, entry_of, handled, item_handling, on_item, on_items, then_also, handed, if_live, on_frame, on_delivery, if_there, on_next, effect, next_account, account, account_of_latest, account_from, keep_all}
+use Rattle.flat_model.specs.Events.{record_of, entry_of, handled, item_handling, on_item, on_items, then_also, handed, if_live, on_frame, on_delivery, if_there, on_next, effect, next_account, account, account_from, keep_all}
 use Rattle.account_laws.specs.Times.{clock, FirstAt}
 use Rattle.account_laws.specs.Schedules.{IsRisingFrom, AreTyped}
-use Rattle.account_laws.specs.Window.{LatestTell, LawOfWindow, OneAccount}
+use Rattle.account_laws.specs.Window.{LawOfWindow, OneAccount}
 use Rattle.account_laws.proofs.Lists.{each_weaker, each_always, each_filter_from, each_slice_get, each_with_entries, find_some}
 use Rattle.account_laws.proofs.SameParts.{same_is}
 use Rattle.account_laws.proofs.Moments.{now_kept, now_clock, first_not_after}
 use Rattle.account_laws.proofs.Items.{Tells, handling_tells}
 use Rattle.account_laws.proofs.Cases.{IsGiven, Cases, peek_is_quiet, effect_by}
-use Rattle.account_laws.proofs.TimesKept.{SentYoung, Entered, Times, first_same, frame_at_each, times_later, times_next, times_nothing, spent_item}
+use Rattle.account_laws.proofs.TimesKept.{SentYoung, Entered, Times, first_same, frame_at_each, times_later, times_next, times_nothing}
 use Rattle.account_laws.proofs.Insert.{with_last, all_before, filter_with_entry}
-use Rattle.account_laws.proofs.Premises.{slice_get_within, none_some}
+use Rattle.account_laws.proofs.Premises.{none_some}
 use Rattle.account_laws.proofs.Ran.{InRange, LookOf, Ran}
 use Rattle.account_laws.proofs.RunKept.{item_runs, joined_twice, ran_later, ran_next, ran_nothing}
 use Rattle.account_laws.proofs.Window.{Spaced, IsOld, spaced_more, window, window_none, oldest_latest}

@@ -8,3 +8,4 @@ pub mod Runs
 pub mod Histories
 pub mod Window
 pub mod Span
+pub mod Locks

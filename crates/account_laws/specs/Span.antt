@@ -1,6 +1,6 @@
 -- The law of the span: where no recorded request comes again too late, a node that keeps the latest replies answers as
 -- one that keeps all, and executes no request twice.
-use Rattle.std.specs.Prelude.{ℕ, ◌+◌, ◌<◌, ◌≤◌, ◌≡◌, Bool, true, false, List, [], ◌∷◌, ◌++◌, length, map, Some}
+use Rattle.std.specs.Prelude.{ℕ, ◌+◌, ◌<◌, ◌≤◌, ◌≡◌, true, false, List, [], ◌∷◌, ◌++◌, length, map, Some}
 use Rattle.std.specs.List.{AllByRecursion as Each, list_any}
 use Rattle.cl_types.specs.Requests.{is_changing}
 use Rattle.cl_types.specs.declared.frame.How.TheVariants.{Executed}

@@ -1,6 +1,5 @@
 -- The law of the window: the latest records tell of what is live what all records tell.
 use Rattle.std.specs.Prelude.{ℕ, ◌≤◌, ◌≡◌, true, List}
-use Rattle.std.specs.List.{AllByRecursion as Each}
 use Rattle.cl_types.specs.declared.config.Config.{Config}
 use Rattle.cl_types.specs.declared.schedule.Event.{Event}
 use Rattle.flat_model.specs.Account.{Account, Frame, Carried, is_live}

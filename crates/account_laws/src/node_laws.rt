@@ -1,9 +1,16 @@
-//! Laws of a node alone, whoever sends to it.
+//! Laws of a node and of the flat machine alone, whoever sends to it.
 
+ghost use Rattle.account_laws.specs.Locks.{LawOfLocks};
 ghost use Rattle.account_laws.specs.Span.{LawOfSpan};
 
 /// Where no changing request comes as long as the span after it was recorded, a node that keeps the latest replies
 /// answers as one that keeps all, and executes no request twice. Moments must not fall.
 pub fn law_of_span()
     ensures { LawOfSpan }
+{}
+
+/// In every run of the flat machine, between two Locks that both took one word stands an entry that was not refused and
+/// releases it: a Write, Unlock, Add or Cas that touches the word, or a Free of its page.
+pub fn law_of_locks()
+    ensures { LawOfLocks }
 {}
