@@ -27,6 +27,12 @@ BytesSpellOneRequest =
     → SpellsRequest bytes head body → SpellsRequest bytes other_head other_body
     → (head ≡ other_head) × (body ≡ other_body)
 
+-- a request has one spelling under a head
+abbrev pub ARequestHasOneSpelling : Type 0
+ARequestHasOneSpelling =
+    (bytes others : List ℕ) (head : Head) (body : Request)
+    → SpellsRequest bytes head body → SpellsRequest others head body → bytes ≡ others
+
 -- bytes with no fault for a node spell the request that it reads in them
 abbrev pub FaultlessRequestsAreSpelled : Type 0
 FaultlessRequestsAreSpelled =
@@ -52,6 +58,12 @@ BytesSpellOneReply =
     (bytes : List ℕ) (head other_head : Head) (kind other_kind : Kind) (body other_body : Reply)
     → SpellsReply bytes head kind body → SpellsReply bytes other_head other_kind other_body
     → (head ≡ other_head) × (kind ≡ other_kind) × (body ≡ other_body)
+
+-- a reply of a kind has one spelling under a head
+abbrev pub AReplyHasOneSpelling : Type 0
+AReplyHasOneSpelling =
+    (bytes others : List ℕ) (head : Head) (kind : Kind) (body : Reply)
+    → SpellsReply bytes head kind body → SpellsReply others head kind body → bytes ≡ others
 
 -- bytes with no fault for a client spell the reply that it reads in them, of some kind
 abbrev pub FaultlessRepliesAreSpelled : Type 0

@@ -1,6 +1,6 @@
 //! Laws of frames: functions that do nothing, each with a law as its contract.
 
-ghost use Rattle.flat_model.specs.FrameLaws.{RequestsAreReadAgain, BytesSpellOneRequest, FaultlessRequestsAreSpelled, RepliesAreReadAgain, BytesSpellOneReply, FaultlessRepliesAreSpelled, NoRequestIsAReply, FramesAreReadAgain, FaultlessFramesAreSpelled};
+ghost use Rattle.flat_model.specs.FrameLaws.{RequestsAreReadAgain, BytesSpellOneRequest, ARequestHasOneSpelling, FaultlessRequestsAreSpelled, RepliesAreReadAgain, BytesSpellOneReply, AReplyHasOneSpelling, FaultlessRepliesAreSpelled, NoRequestIsAReply, FramesAreReadAgain, FaultlessFramesAreSpelled};
 
 /// Bytes that spell a request have no fault, and a node that reads them finds the head and the body that were spelled.
 pub fn requests_are_read_again()
@@ -10,6 +10,11 @@ pub fn requests_are_read_again()
 /// Bytes spell at most one request, under one head.
 pub fn bytes_spell_one_request()
     ensures { BytesSpellOneRequest }
+{}
+
+/// A request has one spelling under a head.
+pub fn a_request_has_one_spelling()
+    ensures { ARequestHasOneSpelling }
 {}
 
 /// Bytes in which a node finds no fault spell the request that it reads in them.
@@ -26,6 +31,11 @@ pub fn replies_are_read_again()
 /// Bytes spell at most one reply, of one kind and under one head.
 pub fn bytes_spell_one_reply()
     ensures { BytesSpellOneReply }
+{}
+
+/// A reply of a kind has one spelling under a head.
+pub fn a_reply_has_one_spelling()
+    ensures { AReplyHasOneSpelling }
 {}
 
 /// Bytes in which a client finds no fault spell the reply that it reads in them, of some kind.

@@ -1,6 +1,7 @@
 //! What no clause says: worked histories are taken, and calls succeed where memory is ample.
 
 use crate::check::check_step;
+use crate::execute::{allocate, read_bytes, show_bytes, write_bytes};
 use crate::flat::Flat;
 use crate::open_fault::OpenFault;
 use crate::opening::create;
@@ -253,5 +254,32 @@ fn a_node_does_not_open_with_a_bad_number_or_without_room(rt: HostRuntime) -> Re
     assert_eq!(rt; opened(alloc, 16, 7, &[]).err(), Some(seven));
     assert_eq!(rt; opened(alloc, 1, 8, &[2]).err(), Some(no_room));
     assert_eq!(rt; opened(alloc, 2, 8, &[2]).err(), None);
+    Ok(())
+}
+
+#[test]
+fn the_machine_takes_steps_by_itself(rt: HostRuntime) -> Result<(), Fail> {
+    let alloc = rt.alloc();
+    let flat = &mut opened(alloc, 16, 8, &[])?;
+    let Some(pid) = try_pid(1) else {
+        return Err(Fail::new("another answer"));
+    };
+    let first = allocate(flat, pid, 1, Perm::ReadOnly)?;
+    assert!(rt; matches!(first, Reply::At(Addr(0x1000))));
+    let second = allocate(flat, pid, 1, Perm::ReadWrite)?;
+    assert!(rt; matches!(second, Reply::At(Addr(0x2000))));
+    let written = write_bytes(alloc, flat, pid, Addr(0x2ffd), b"abc")?;
+    assert!(rt; matches!(written, Reply::Nothing));
+    let refused = write_bytes(alloc, flat, pid, Addr(0x1000), b"abc")?;
+    assert!(rt; matches!(refused, Reply::Refused(Refusal::NoPermission)));
+    let Reply::Got(read) = read_bytes(alloc, flat, pid, Addr(0x2ffc), 4)? else {
+        return Err(Fail::new("another answer"));
+    };
+    assert!(rt; read.as_slice() == b"\0abc".as_slice());
+    let Some(shown) = show_bytes(alloc, flat, pid, Addr(0x1000), 2)? else {
+        return Err(Fail::new("another answer"));
+    };
+    assert!(rt; shown.as_slice() == b"\0\0".as_slice());
+    assert!(rt; show_bytes(alloc, flat, pid, Addr(0x3000), 2)?.is_none());
     Ok(())
 }
