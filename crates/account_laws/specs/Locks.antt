@@ -19,6 +19,7 @@ pub record TakesLock (pid : ℕ) (word : Addr) (e : Entry) : Type 0 where
   pub request : e.request ≡ request.Atomic word Lock
   pub reply : e.reply ≡ Word 0
 
+-- the operation is a Lock
 abbrev pub is_lock : AtomicOp → Bool
 is_lock Lock = true
 is_lock other = false
@@ -30,6 +31,7 @@ may_release word (request.Atomic addr op) = addr.0 == word.0 && not (is_lock op)
 may_release word (request.Free addr n) = leb (page_of addr) (page_of word) && nat_lt (page_of word) (page_of addr + n)
 may_release word other = false
 
+-- the reply is a refusal
 abbrev pub is_refused : Reply → Bool
 is_refused (Refused refusal) = true
 is_refused other = false

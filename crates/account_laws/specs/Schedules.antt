@@ -1,4 +1,4 @@
--- What the laws ask of the events of a schedule. What is read from a text has both.
+-- What the laws ask of the events of a schedule.
 use Rattle.std.specs.Prelude.{ℕ, ◌+◌, ◌≤◌, ◌≡◌, true, List, [], ◌∷◌}
 use Rattle.std.specs.List.{AllByRecursion as Each}
 use Rattle.cl_types.specs.declared.schedule.Event.{Event}

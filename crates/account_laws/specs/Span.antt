@@ -20,6 +20,7 @@ if_executed (Gives Executed reply) name = name ∷ []
 if_executed other name = []
 
 module _ (keep : ℕ → List Record → List Record) where
+  -- the answers to all that it is given, in order
   abbrev pub answers_to : Node → List Given → List NodeAnswer
   answers_to n [] = []
   answers_to n (g ∷ gs) = node_answer keep n g.0 g.1 ∷ answers_to (node_given keep n g.0 g.1) gs
@@ -29,6 +30,7 @@ module _ (keep : ℕ → List Record → List Record) where
   executed_in n t [] = []
   executed_in n t (i ∷ is) = let step : NodeStep = step_item keep n t i in if_executed step.said (name_of i) ++ executed_in step.node t is
 
+  -- the names of the items that were executed in all that it is given, in order
   abbrev pub executed_over : Node → List Given → List Name
   executed_over n [] = []
   executed_over n (g ∷ gs) = executed_in n g.0 (items_read g.1) ++ executed_over (node_given keep n g.0 g.1) gs
@@ -65,6 +67,7 @@ abbrev pub AreNew : List Name → List Name → Type 0
 AreNew so_far [] = Unit {0}
 AreNew so_far (name ∷ names) = (list_any (same_name name) so_far ≡ false) × AreNew (so_far ++ name ∷ []) names
 
+-- a node that keeps the latest replies answers as one that keeps all, and executes no name twice
 abbrev pub LawOfSpan : Type 0
 LawOfSpan =
     (n : Node) (last : ℕ) (given : List Given) → IsSetUp n last → AreInTime last given → KeepSpan n given
