@@ -1,3 +1,5 @@
 pub mod Flights
 pub mod Rules
 pub mod Fields
+pub mod Slots
+pub mod Walks

@@ -5,12 +5,16 @@
 //! time ask for: a part is given up at age `SPAN`, and sent again `TIMEOUT` ticks after its last sending while its age
 //! is at most `LAST_RESEND`. Only `create` takes memory.
 //!
+//! How the parts are kept shows in no clause: each stands at one of 64 places, in a slab, and the places stand in a list
+//! in order of call and part, and in a chain by the id of the first sending, so that a reply finds its part in few steps.
 //! The frames, the ids and what a reply says are left to others.
 #![tactic(auto)]
 
 mod due;
 mod flight;
 mod flown;
+mod slots;
+mod walk;
 
 pub use due::Due;
 pub use flight::Flight;

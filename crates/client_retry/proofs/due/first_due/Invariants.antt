@@ -1,6 +1,0 @@
-use Rattle.std.proofs.Common.{◌≡◌, drop, find}
-use Rattle.client_retry.specs.Rules.{is_due}
-use Rattle.client_retry.proofs.due.first_due.Given as goal
-
-abbrev pub invariant-loop-part : goal.invariant-loop-part
-invariant-loop-part l = find (is_due l.now) (drop l.part-index l.flown) ≡ find (is_due l.now) l.flown
