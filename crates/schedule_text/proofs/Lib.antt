@@ -6,3 +6,4 @@ pub mod ArgumentLemmas
 pub mod CallLemmas
 pub mod LineLemmas
 pub mod ScriptLemmas
+pub mod ReadingLemmas

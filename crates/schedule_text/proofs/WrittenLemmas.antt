@@ -1,6 +1,6 @@
 -- Written bytes.
-use Rattle.std.proofs.Common.{◌≡◌, ℕ, ◌*◌, ◌/◌, ◌≤◌, ◌==◌, Bool, true, false, ◌&&◌, leb, cond, List, [], ◌∷◌, length, refl, sym, ◌∙◌, ap, arith, Option, Some, None, inl, inr, ◌⊎◌}
-use Rattle.std.specs.List.{list_all, onto_first, slice_split}
+use Rattle.std.proofs.Common.{◌≡◌, ℕ, zero, suc, ◌+◌, ◌++◌, replicate, append_assoc, append-nil, add-one, ◌*◌, ◌/◌, ◌≤◌, ◌==◌, Bool, true, false, ◌&&◌, leb, cond, List, [], ◌∷◌, length, refl, sym, ◌∙◌, ap, arith, Option, Some, None, inl, inr, ◌⊎◌}
+use Rattle.std.specs.List.{concat, list_all, onto_first, slice_split}
 use Rattle.std.proofs.lemmas.Bool.Decides.{nat_tests}
 use Rattle.flat_model.specs.Text.{Text}
 use Rattle.flat_model.specs.Words.{is_digit, is_plain, number_in, times_in, most_written}
@@ -70,3 +70,14 @@ times_by text (inr more) = rw (more.parts, more.no_number) (none_by (is_plain te
 -- a text with a second star is no number
 pub times_in_split : (text : Text) → number_in 1 70000 text ≡ times_in (slice_split (λ b. b == 42) text)
 times_in_split text = times_by text (parts_of text)
+
+-- ---- repeats
+repeated : (n : ℕ) (bytes : List ℕ) → bytes ++ concat (replicate n bytes) ≡ concat (replicate n bytes) ++ bytes
+repeated zero bytes = append-nil bytes
+repeated (suc n) bytes =
+    ap (λ (more : List ℕ). bytes ++ more) (repeated n bytes) ∙ sym (append_assoc bytes (concat (replicate n bytes)) bytes)
+
+-- the bytes once more
+pub expand_more : (n : ℕ) (bytes now new : List ℕ) → now ≡ concat (replicate n bytes) → new ≡ now ++ bytes → new ≡ concat (replicate (n + 1) bytes)
+expand_more n bytes now new so_far next =
+    next ∙ ap (λ (front : List ℕ). front ++ bytes) so_far ∙ rw add-one (sym (repeated n bytes))

@@ -1,11 +1,15 @@
 -- The words of calls, and what stands behind each.
 use Rattle.std.specs.Prelude.{List, [], ◌∷◌, Option, Some, None, Result, Ok, Err, codes}
+use Rattle.std.specs.Borrow.{Bor}
 use Rattle.cl_types.specs.declared.schedule.CallText.{CallText}
 use Rattle.cl_types.specs.declared.schedule.What.{What}
 use Rattle.flat_model.specs.Text.{Text}
 use Rattle.flat_model.specs.Words.{Address, Number, Permission, BytesWord}
 use Rattle.flat_model.specs.Grammar.{CallForm, called_by, u32, u64, alloc_call, free_call, read_call, write_call, lock_call, unlock_call, add_call, cas_call, offload_call, fence_call}
 use Rattle.schedule_text.specs.Arguments.{arguments_after}
+use Rattle.schedule_text.specs.Parts.{words_left}
+use Rattle.schedule_text.specs.Telling.{Tells}
+use Rattle.schedule_text.specs.declared.fault.Stop.{Stop}
 use Rattle.schedule_text.specs.declared.calls.CallWord.{CallWord}
 use Rattle.schedule_text.specs.declared.calls.CallWord.TheVariants as word
 
@@ -32,3 +36,7 @@ form_of word.Fence = record { arguments = []; calls = fence_call }
 -- the call of a form, where nothing is wrong with the word in front
 abbrev pub call_after : Option What → CallForm → List Text → Result CallText What
 call_after before f texts = called_by f.calls (arguments_after before f.arguments texts)
+
+-- the call of a word, of the words behind it, where nothing is wrong with the word before
+abbrev pub GivesCall : Option What → CallWord → Option (Bor Text) → Result CallText Stop → Type 0
+GivesCall before name rest result = Tells result (call_after before (form_of name) (words_left rest))

@@ -1,7 +1,9 @@
 pub mod Arguments
 pub mod Calls
 pub mod Digits
+pub mod Lines
 pub mod Parts
 pub mod Reading
+pub mod Readings
 pub mod Script
 pub mod Telling

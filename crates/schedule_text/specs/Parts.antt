@@ -8,3 +8,7 @@ use Rattle.flat_model.specs.Text.{Text}
 abbrev pub parts_left : ℕ → Option (Bor Text) → List Text
 parts_left separator None = []
 parts_left separator (Some rest) = slice_split (λ b. b == separator) rest.now
+
+-- the words of what stands behind a space
+abbrev pub words_left : Option (Bor Text) → List Text
+words_left rest = parts_left 32 rest

@@ -3,19 +3,20 @@
 ghost use Rattle.std.specs.Prelude.{◌≡◌, ◌≤◌, [], ◌∷◌, Some, None, IfOk, IfErr};
 ghost use Rattle.flat_model.specs.Words.{A, Address, N, Number, P, Permission, argument_in};
 ghost use Rattle.schedule_text.specs.Arguments.{count_fault};
-ghost use Rattle.schedule_text.specs.Parts.{parts_left};
+ghost use Rattle.schedule_text.specs.Parts.{words_left};
 ghost use Rattle.schedule_text.specs.Telling.{told};
 
 use crate::numbers::{address, number};
 use crate::parts::cut;
 use cl_types::call::Perm;
-use cl_types::numbers::Addr;
+use cl_types::numbers::{Addr, ClientNo, Pid, try_pid};
 use cl_types::schedule::What;
 
-/// No word. `before` is what is wrong with a word in front, and is told where the number of words is right.
+/// No word. `before` is what is wrong with a word in front, and is told where the number of words is
+/// right.
 pub(crate) fn none(rest: Option<&[u8]>, before: Option<What>) -> Result<(), What>
-    ensures right { IfOk result (λ u. (parts_left 32 rest.entry ≡ []) × (before ≡ None)) }
-    ensures fault { IfErr result (λ what. count_fault 0 before (parts_left 32 rest.entry) ≡ Some what) }
+    ensures right { IfOk result (λ u. (words_left rest.entry ≡ []) × (before ≡ None)) }
+    ensures fault { IfErr result (λ what. count_fault 0 before (words_left rest.entry) ≡ Some what) }
 {
     if let Some(_words) = rest {
         return Err(What::ExtraWord);
@@ -29,8 +30,8 @@ pub(crate) fn none(rest: Option<&[u8]>, before: Option<What>) -> Result<(), What
 /// One word.
 #[tactic(auto, using(crate::proofs::ArgumentLemmas::parts_some))]
 pub(crate) fn one(rest: Option<&[u8]>, before: Option<What>) -> Result<&[u8], What>
-    ensures right { IfOk result (λ text. (parts_left 32 rest.entry ≡ text.now ∷ []) × (before ≡ None)) }
-    ensures fault { IfErr result (λ what. count_fault 1 before (parts_left 32 rest.entry) ≡ Some what) }
+    ensures right { IfOk result (λ text. (words_left rest.entry ≡ text.now ∷ []) × (before ≡ None)) }
+    ensures fault { IfErr result (λ what. count_fault 1 before (words_left rest.entry) ≡ Some what) }
 {
     let Some(words) = rest else {
         return Err(What::MissingWord);
@@ -44,8 +45,8 @@ pub(crate) fn one(rest: Option<&[u8]>, before: Option<What>) -> Result<&[u8], Wh
 #[tactic(auto, using(crate::proofs::ArgumentLemmas::parts_some))]
 pub(crate) fn two(rest: Option<&[u8]>, before: Option<What>) -> Result<(&[u8], &[u8]), What>
     ensures right { IfOk result (λ texts.
-        (parts_left 32 rest.entry ≡ texts.0.now ∷ texts.1.now ∷ []) × (before ≡ None)) }
-    ensures fault { IfErr result (λ what. count_fault 2 before (parts_left 32 rest.entry) ≡ Some what) }
+        (words_left rest.entry ≡ texts.0.now ∷ texts.1.now ∷ []) × (before ≡ None)) }
+    ensures fault { IfErr result (λ what. count_fault 2 before (words_left rest.entry) ≡ Some what) }
 {
     let Some(words) = rest else {
         return Err(What::MissingWord);
@@ -62,8 +63,8 @@ pub(crate) fn three(
     before: Option<What>,
 ) -> Result<(&[u8], &[u8], &[u8]), What>
     ensures right { IfOk result (λ texts.
-        (parts_left 32 rest.entry ≡ texts.0.now ∷ texts.1.now ∷ texts.2.now ∷ []) × (before ≡ None)) }
-    ensures fault { IfErr result (λ what. count_fault 3 before (parts_left 32 rest.entry) ≡ Some what) }
+        (words_left rest.entry ≡ texts.0.now ∷ texts.1.now ∷ texts.2.now ∷ []) × (before ≡ None)) }
+    ensures fault { IfErr result (λ what. count_fault 3 before (words_left rest.entry) ≡ Some what) }
 {
     let Some(words) = rest else {
         return Err(What::MissingWord);
@@ -80,8 +81,9 @@ pub(crate) fn four(
     before: Option<What>,
 ) -> Result<(&[u8], &[u8], &[u8], &[u8]), What>
     ensures right { IfOk result (λ texts.
-        (parts_left 32 rest.entry ≡ texts.0.now ∷ texts.1.now ∷ texts.2.now ∷ texts.3.now ∷ []) × (before ≡ None)) }
-    ensures fault { IfErr result (λ what. count_fault 4 before (parts_left 32 rest.entry) ≡ Some what) }
+        (words_left rest.entry ≡ texts.0.now ∷ texts.1.now ∷ texts.2.now ∷ texts.3.now ∷ [])
+        × (before ≡ None)) }
+    ensures fault { IfErr result (λ what. count_fault 4 before (words_left rest.entry) ≡ Some what) }
 {
     let Some(words) = rest else {
         return Err(What::MissingWord);
@@ -99,6 +101,25 @@ pub(crate) fn number_argument(low: u64, high: u64, text: &[u8]) -> Result<u64, W
     match number(low, high, text) {
         None => Err(What::BadNumber),
         Some(n) => Ok(n),
+    }
+}
+
+/// The number of a client.
+pub(crate) fn client_argument(text: &[u8]) -> Result<ClientNo, What>
+    ensures { told (λ client. N client.0) result ≡ argument_in (Number 0 65535) text.now }
+{
+    let number = number_argument(0, 65_535, text)?;
+    Ok(ClientNo(number as u16))
+}
+
+/// The number of a process.
+pub(crate) fn pid_argument(text: &[u8]) -> Result<Pid, What>
+    ensures { told N result ≡ argument_in (Number 1 65279) text.now }
+{
+    let number = number_argument(1, 65_279, text)?;
+    match try_pid(number as u16) {
+        None => Err(What::BadNumber),
+        Some(pid) => Ok(pid),
     }
 }
 

@@ -3,8 +3,7 @@
 ghost use Rattle.std.specs.Prelude.{◌≡◌};
 ghost use Rattle.flat_model.specs.Text.{words_in};
 ghost use Rattle.flat_model.specs.Grammar.{by_word, call_in_words};
-ghost use Rattle.schedule_text.specs.Calls.{call_after, call_words, form_of};
-ghost use Rattle.schedule_text.specs.Parts.{parts_left};
+ghost use Rattle.schedule_text.specs.Calls.{GivesCall, call_words};
 ghost use Rattle.schedule_text.specs.Telling.{Tells};
 
 use crate::arguments::{
@@ -69,7 +68,7 @@ pub(crate) fn call_word(word: &[u8]) -> Option<CallWord>
 
 #[tactic(auto, using(crate::proofs::ArgumentLemmas::arguments_fault))]
 fn alloc_call(before: Option<What>, rest: Option<&[u8]>) -> Result<CallText, Stop>
-    ensures { Tells result (call_after before (form_of CallWord.Alloc) (parts_left 32 rest.entry)) }
+    ensures { GivesCall before CallWord.Alloc rest.entry result }
 {
     let (pages, perm) = two(rest, before)?;
     let pages = number_argument(0, LAST_U32, pages)? as u32;
@@ -79,7 +78,7 @@ fn alloc_call(before: Option<What>, rest: Option<&[u8]>) -> Result<CallText, Sto
 
 #[tactic(auto, using(crate::proofs::ArgumentLemmas::arguments_fault))]
 fn free_call(before: Option<What>, rest: Option<&[u8]>) -> Result<CallText, Stop>
-    ensures { Tells result (call_after before (form_of CallWord.Free) (parts_left 32 rest.entry)) }
+    ensures { GivesCall before CallWord.Free rest.entry result }
 {
     let (addr, pages) = two(rest, before)?;
     let addr = address_argument(addr)?;
@@ -89,7 +88,7 @@ fn free_call(before: Option<What>, rest: Option<&[u8]>) -> Result<CallText, Stop
 
 #[tactic(auto, using(crate::proofs::ArgumentLemmas::arguments_fault))]
 fn read_call(before: Option<What>, rest: Option<&[u8]>) -> Result<CallText, Stop>
-    ensures { Tells result (call_after before (form_of CallWord.Read) (parts_left 32 rest.entry)) }
+    ensures { GivesCall before CallWord.Read rest.entry result }
 {
     let (addr, len) = two(rest, before)?;
     let addr = address_argument(addr)?;
@@ -99,7 +98,7 @@ fn read_call(before: Option<What>, rest: Option<&[u8]>) -> Result<CallText, Stop
 
 #[tactic(auto, using(crate::proofs::ArgumentLemmas::arguments_fault))]
 fn write_call(alloc: Global, before: Option<What>, rest: Option<&[u8]>) -> Result<CallText, Stop>
-    ensures { Tells result (call_after before (form_of CallWord.Write) (parts_left 32 rest.entry)) }
+    ensures { GivesCall before CallWord.Write rest.entry result }
 {
     let (addr, bytes) = two(rest, before)?;
     let addr = address_argument(addr)?;
@@ -109,7 +108,7 @@ fn write_call(alloc: Global, before: Option<What>, rest: Option<&[u8]>) -> Resul
 
 #[tactic(auto, using(crate::proofs::ArgumentLemmas::arguments_fault))]
 fn lock_call(before: Option<What>, rest: Option<&[u8]>) -> Result<CallText, Stop>
-    ensures { Tells result (call_after before (form_of CallWord.Lock) (parts_left 32 rest.entry)) }
+    ensures { GivesCall before CallWord.Lock rest.entry result }
 {
     let addr = address_argument(one(rest, before)?)?;
     let op = AtomicOp::Lock;
@@ -118,7 +117,7 @@ fn lock_call(before: Option<What>, rest: Option<&[u8]>) -> Result<CallText, Stop
 
 #[tactic(auto, using(crate::proofs::ArgumentLemmas::arguments_fault))]
 fn unlock_call(before: Option<What>, rest: Option<&[u8]>) -> Result<CallText, Stop>
-    ensures { Tells result (call_after before (form_of CallWord.Unlock) (parts_left 32 rest.entry)) }
+    ensures { GivesCall before CallWord.Unlock rest.entry result }
 {
     let addr = address_argument(one(rest, before)?)?;
     let op = AtomicOp::Unlock;
@@ -127,7 +126,7 @@ fn unlock_call(before: Option<What>, rest: Option<&[u8]>) -> Result<CallText, St
 
 #[tactic(auto, using(crate::proofs::ArgumentLemmas::arguments_fault))]
 fn add_call(before: Option<What>, rest: Option<&[u8]>) -> Result<CallText, Stop>
-    ensures { Tells result (call_after before (form_of CallWord.Add) (parts_left 32 rest.entry)) }
+    ensures { GivesCall before CallWord.Add rest.entry result }
 {
     let (addr, n) = two(rest, before)?;
     let addr = address_argument(addr)?;
@@ -138,7 +137,7 @@ fn add_call(before: Option<What>, rest: Option<&[u8]>) -> Result<CallText, Stop>
 
 #[tactic(auto, using(crate::proofs::ArgumentLemmas::arguments_fault))]
 fn cas_call(before: Option<What>, rest: Option<&[u8]>) -> Result<CallText, Stop>
-    ensures { Tells result (call_after before (form_of CallWord.Cas) (parts_left 32 rest.entry)) }
+    ensures { GivesCall before CallWord.Cas rest.entry result }
 {
     let (addr, expect, put) = three(rest, before)?;
     let addr = address_argument(addr)?;
@@ -150,7 +149,7 @@ fn cas_call(before: Option<What>, rest: Option<&[u8]>) -> Result<CallText, Stop>
 
 #[tactic(auto, using(crate::proofs::ArgumentLemmas::arguments_fault))]
 fn offload_call(alloc: Global, before: Option<What>, rest: Option<&[u8]>) -> Result<CallText, Stop>
-    ensures { Tells result (call_after before (form_of CallWord.Offload) (parts_left 32 rest.entry)) }
+    ensures { GivesCall before CallWord.Offload rest.entry result }
 {
     let (no, op, out, bytes) = four(rest, before)?;
     let no = number_argument(0, 255, no)? as u8;
@@ -162,21 +161,21 @@ fn offload_call(alloc: Global, before: Option<What>, rest: Option<&[u8]>) -> Res
 
 #[tactic(auto, using(crate::proofs::ArgumentLemmas::arguments_fault))]
 fn fence_call(before: Option<What>, rest: Option<&[u8]>) -> Result<CallText, Stop>
-    ensures { Tells result (call_after before (form_of CallWord.Fence) (parts_left 32 rest.entry)) }
+    ensures { GivesCall before CallWord.Fence rest.entry result }
 {
     none(rest, before)?;
     Ok(CallText::Fence)
 }
 
-/// The call of a word, with the words behind it. `before` is what is wrong with a word in front, and is told where the
-/// number of words is right.
+/// The call of a word, with the words behind it. `before` is what is wrong with a word in front,
+/// and is told where the number of words is right.
 pub(crate) fn call_by_word(
     alloc: Global,
     word: CallWord,
     before: Option<What>,
     rest: Option<&[u8]>,
 ) -> Result<CallText, Stop>
-    ensures { Tells result (call_after before (form_of word) (parts_left 32 rest.entry)) }
+    ensures { GivesCall before word rest.entry result }
 {
     match word {
         CallWord::Alloc => alloc_call(before, rest),

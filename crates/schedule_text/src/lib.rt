@@ -1,17 +1,29 @@
 //! Reads schedules and scripts from bytes.
 //!
-//! A contract sees the bytes as a list, and what they spell, or their first bad line, as the grammar in `flat_model`
-//! has it. Both calls read exactly what the grammar gives, where the bytes and their lines aren't too many.
+//! A contract sees bytes as a list, and a call's result as what the grammar in `flat_model` gives for
+//! them: the schedule or the calls of a script, or the first bad line and what is wrong with it. Where
+//! the bytes or their lines are too many, that alone is told; and want of memory may come in place of
+//! the rest.
+//!
+//! Whether a node opens with the numbers of a schedule is judged by others. That a call goes once over
+//! its bytes, and once more to count the lines, is in no clause.
 #![tactic(auto)]
 
 mod arguments;
 mod calls;
 mod fault;
+mod garbage;
 mod lines;
 mod numbers;
 mod parts;
+mod reading;
+mod said;
+mod schedule;
 mod script;
+#[cfg(test)]
+mod tests;
 mod written;
 
 pub use fault::{MOST_BYTES, MOST_LINES, ScheduleFault};
+pub use schedule::read;
 pub use script::read_script;

@@ -41,11 +41,11 @@ fn are_hex(text: &[u8]) -> bool
     true
 }
 
-/// Whether these are two digits for each of some bytes, which stand there so often and aren't too many.
+/// Whether these are two digits for each of some bytes that, so often, aren't too many.
 fn are_pairs(digits: &[u8], times: u64) -> bool
     requires { 1 ≤ times }
-    ensures { result ≡ (leb 2 (length digits.now) && length digits.now % 2 == 0 && list_all is_hex_digit digits.now
-        && leb (length digits.now / 2 * times) most_written) }
+    ensures { result ≡ (leb 2 (length digits.now) && length digits.now % 2 == 0
+        && list_all is_hex_digit digits.now && leb (length digits.now / 2 * times) most_written) }
 {
     let count = digits.len() as u64;
     count >= 2 && count % 2 == 0 && are_hex(digits) && count / 2 <= MOST_WRITTEN / times

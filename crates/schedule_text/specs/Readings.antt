@@ -1,0 +1,33 @@
+-- What was read of a schedule so far, and what a line adds.
+use Rattle.std.specs.Prelude.{◌≡◌, ℕ, ◌++◌, List, Option, Some, None, Result, Ok, Err}
+use Rattle.cl_types.specs.declared.schedule.What.{What}
+use Rattle.flat_model.specs.Text.{Text, first_word, words_in}
+use Rattle.flat_model.specs.Faults.{first_fault}
+use Rattle.flat_model.specs.Grammar.{Fault, place_faults, read_more, said_by_words, said_faults}
+use Rattle.flat_model.specs.Grammar as grammar
+use Rattle.schedule_text.specs.declared.fault.ScheduleFault.{ScheduleFault}
+use Rattle.schedule_text.specs.declared.fault.ScheduleFault.TheVariants.{Line, TooLong, NoMemory}
+use Rattle.schedule_text.specs.declared.reading.Reading.{Reading}
+
+-- what was read, as the grammar has it
+abbrev pub reading_of : Reading → grammar.Reading
+reading_of r = record { header = r.header; node = r.node; clients = r.clients; events = r.events; begun = r.begun }
+
+-- what a line says, where nothing is wrong with that
+abbrev pub sound : grammar.Reading → Result grammar.Said What → Result grammar.Said What
+sound r (Err what) = Err what
+sound r (Ok said) = elim (first_fault (said_faults r said)) [ Some what ↦ Err what | None ↦ Ok said ]
+
+abbrev pub line_said : grammar.Reading → Text → Result grammar.Said What
+line_said r line = elim (first_fault (place_faults r line (first_word (words_in line)))) [
+  | Some what ↦ Err what
+  | None ↦ sound r (said_by_words (words_in line))
+]
+
+-- a value, or the bad line, as the grammar gives it
+abbrev pub Gives : {A : Type 0} → Result A Fault → Result A ScheduleFault → Type 0
+Gives given (Ok x) = given ≡ Ok x
+Gives given (Err (Line number what)) = given ≡ Err (number, what)
+Gives given (Err NoMemory) = Unit {0}
+-- what was read is never too long
+Gives given (Err (TooLong of_bytes number)) = ⊥

@@ -1,0 +1,38 @@
+//! Whether garbage spells a frame after all.
+
+ghost use Rattle.std.specs.Prelude.{◌≡◌, IfOk, is_none};
+ghost use Rattle.flat_model.specs.Clients.{expanded};
+ghost use Rattle.flat_model.specs.Frames.{reply_fault, request_fault};
+
+use cl_types::items::{Bytes, NoMemory};
+use cl_types::schedule::Written;
+use frame_codec::{read_reply, read_request};
+use std::alloc::Global;
+
+/// The bytes, as often as they stand there.
+#[tactic(auto, using(crate::proofs::WrittenLemmas::expand_more))]
+fn expand(alloc: Global, written: &Written) -> Result<Bytes, NoMemory>
+    ensures { IfOk result (λ bytes. bytes ≡ expanded written.now) }
+{
+    let mut bytes = Bytes::create(alloc);
+    for time in 0..written.times {
+        bytes.append(written.bytes.as_slice())?;
+    }
+    Ok(bytes)
+}
+
+/// Whether the bytes spell a request.
+pub(crate) fn is_request(alloc: Global, written: &Written) -> Result<bool, NoMemory>
+    ensures { IfOk result (λ found. found ≡ is_none (request_fault (expanded written.now))) }
+{
+    let bytes = expand(alloc, written)?;
+    Ok(read_request(bytes.as_slice()).is_ok())
+}
+
+/// Whether the bytes spell a reply.
+pub(crate) fn is_reply(alloc: Global, written: &Written) -> Result<bool, NoMemory>
+    ensures { IfOk result (λ found. found ≡ is_none (reply_fault (expanded written.now))) }
+{
+    let bytes = expand(alloc, written)?;
+    Ok(read_reply(bytes.as_slice()).is_ok())
+}
