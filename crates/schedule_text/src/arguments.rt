@@ -1,6 +1,6 @@
 //! The arguments of a line: so many words, and each as its kind.
 
-ghost use Rattle.std.specs.Prelude.{◌≡◌, ◌≤◌, [], ◌∷◌, Some, None, IfOk, IfErr};
+ghost use Rattle.std.specs.Prelude.{◌≡◌, ◌≤◌, [], ◌∷◌, Some, None, IfOk, IfErr, OnOk};
 ghost use Rattle.flat_model.specs.Words.{A, Address, N, Number, P, Permission, argument_in};
 ghost use Rattle.schedule_text.specs.Arguments.{count_fault};
 ghost use Rattle.schedule_text.specs.Parts.{words_left};
@@ -12,11 +12,12 @@ use cl_types::call::Perm;
 use cl_types::numbers::{Addr, ClientNo, Pid, try_pid};
 use cl_types::schedule::What;
 
-/// No word. `before` is what is wrong with a word in front, and is told where the number of words is
-/// right.
+/// No word. `before` is what is wrong with a word in front, and is told where the number of words
+/// is right.
 pub(crate) fn none(rest: Option<&[u8]>, before: Option<What>) -> Result<(), What>
-    ensures right { IfOk result (λ u. (words_left rest.entry ≡ []) × (before ≡ None)) }
-    ensures fault { IfErr result (λ what. count_fault 0 before (words_left rest.entry) ≡ Some what) }
+    ensures right { OnOk result ((words_left rest.entry ≡ []) × (before ≡ None)) }
+    ensures fault { IfErr result (λ what.
+        count_fault 0 before (words_left rest.entry) ≡ Some what) }
 {
     if let Some(_words) = rest {
         return Err(What::ExtraWord);
@@ -30,8 +31,10 @@ pub(crate) fn none(rest: Option<&[u8]>, before: Option<What>) -> Result<(), What
 /// One word.
 #[tactic(auto, using(crate::proofs::ArgumentLemmas::parts_some))]
 pub(crate) fn one(rest: Option<&[u8]>, before: Option<What>) -> Result<&[u8], What>
-    ensures right { IfOk result (λ text. (words_left rest.entry ≡ text.now ∷ []) × (before ≡ None)) }
-    ensures fault { IfErr result (λ what. count_fault 1 before (words_left rest.entry) ≡ Some what) }
+    ensures right { IfOk result (λ text.
+        (words_left rest.entry ≡ text.now ∷ []) × (before ≡ None)) }
+    ensures fault { IfErr result (λ what.
+        count_fault 1 before (words_left rest.entry) ≡ Some what) }
 {
     let Some(words) = rest else {
         return Err(What::MissingWord);
@@ -46,7 +49,8 @@ pub(crate) fn one(rest: Option<&[u8]>, before: Option<What>) -> Result<&[u8], Wh
 pub(crate) fn two(rest: Option<&[u8]>, before: Option<What>) -> Result<(&[u8], &[u8]), What>
     ensures right { IfOk result (λ texts.
         (words_left rest.entry ≡ texts.0.now ∷ texts.1.now ∷ []) × (before ≡ None)) }
-    ensures fault { IfErr result (λ what. count_fault 2 before (words_left rest.entry) ≡ Some what) }
+    ensures fault { IfErr result (λ what.
+        count_fault 2 before (words_left rest.entry) ≡ Some what) }
 {
     let Some(words) = rest else {
         return Err(What::MissingWord);
@@ -64,7 +68,8 @@ pub(crate) fn three(
 ) -> Result<(&[u8], &[u8], &[u8]), What>
     ensures right { IfOk result (λ texts.
         (words_left rest.entry ≡ texts.0.now ∷ texts.1.now ∷ texts.2.now ∷ []) × (before ≡ None)) }
-    ensures fault { IfErr result (λ what. count_fault 3 before (words_left rest.entry) ≡ Some what) }
+    ensures fault { IfErr result (λ what.
+        count_fault 3 before (words_left rest.entry) ≡ Some what) }
 {
     let Some(words) = rest else {
         return Err(What::MissingWord);
@@ -83,7 +88,8 @@ pub(crate) fn four(
     ensures right { IfOk result (λ texts.
         (words_left rest.entry ≡ texts.0.now ∷ texts.1.now ∷ texts.2.now ∷ texts.3.now ∷ [])
         × (before ≡ None)) }
-    ensures fault { IfErr result (λ what. count_fault 4 before (words_left rest.entry) ≡ Some what) }
+    ensures fault { IfErr result (λ what.
+        count_fault 4 before (words_left rest.entry) ≡ Some what) }
 {
     let Some(words) = rest else {
         return Err(What::MissingWord);

@@ -14,8 +14,8 @@ pub const MOST_LINES: u32 = 200_000;
 pub enum ScheduleFault {
     /// The first bad line, by its number from 1, and the first that is wrong with it.
     Line { number: u32, what: What },
-    /// There are more than `MOST_BYTES` bytes, where `bytes` holds, else more than `MOST_LINES` lines.
-    /// `number` is one more than the limit.
+    /// There are more than `MOST_BYTES` bytes, where `bytes` holds, else more than `MOST_LINES`
+    /// lines. `number` is one more than the limit.
     TooLong { bytes: bool, number: u32 },
     /// There was no memory for what was read.
     NoMemory,

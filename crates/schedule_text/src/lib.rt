@@ -1,12 +1,13 @@
 //! Reads schedules and scripts from bytes.
 //!
-//! A contract sees bytes as a list, and a call's result as what the grammar in `flat_model` gives for
-//! them: the schedule or the calls of a script, or the first bad line and what is wrong with it. Where
-//! the bytes or their lines are too many, that alone is told; and want of memory may come in place of
-//! the rest.
+//! A contract sees bytes as a list, and what a call tells as what the grammar in `flat_model` gives
+//! for them: the schedule or the calls of a script, or the first bad line and what is wrong with it.
+//! Where the bytes or their lines are too many, that alone is told, and want of memory may come in
+//! place of the rest.
 //!
-//! Whether a node opens with the numbers of a schedule is judged by others. That a call goes once over
-//! its bytes, and once more to count the lines, is in no clause.
+//! Whether a node opens with the numbers of a schedule is judged by others. That a call goes once
+//! over its bytes, and before that once to count the lines, can be seen in the code, and no clause
+//! says it.
 #![tactic(auto)]
 
 mod arguments;

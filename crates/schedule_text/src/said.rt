@@ -155,7 +155,8 @@ fn call_of_nobody(
     word: CallWord,
     rest: Option<&[u8]>,
 ) -> Result<Said, Stop>
-    ensures { SaysCall (Err what) (call_after (Some what) (form_of word) (words_left rest.entry)) result }
+    ensures { SaysCall (Err what)
+        (call_after (Some what) (form_of word) (words_left rest.entry)) result }
 {
     call_by_word(alloc, word, Some(what), rest)?;
     Err(Stop::Bad(what))

@@ -5,10 +5,21 @@ use cl_types::config::OffloadConfig;
 use cl_types::schedule::{CallText, Event, What};
 use std::test::Fail;
 
+/// Whether the event is a Write of "ab", three times over.
+fn writes_ab_3_times(event: &Event) -> bool {
+    match event {
+        Event::Call {
+            call: CallText::Write { bytes, .. },
+            ..
+        } => bytes.times == 3 && bytes.bytes.as_slice() == b"ab".as_slice(),
+        _ => false,
+    }
+}
+
 #[test]
 fn a_schedule_is_read(rt: HostRuntime) -> Result<(), Fail> {
     let text =
-        b"# a node with a store\nnode 16 8 4 4\noffload kv 13\nclient 1 1\n\ncall 1 write 0x1000 6162*3\n\
+        b"# a store\nnode 16 8 4 4\noffload kv 13\nclient 1 1\n\ncall 1 write 0x1000 6162*3\n\
 deliver next\ntick 400\npeek 1 0x1ffc 4\ngarbage 1 -\n";
     let schedule = read(rt.alloc(), text)?;
     let header = b"node 16 8 4 4\noffload kv 13\nclient 1 1\n";
@@ -18,19 +29,9 @@ deliver next\ntick 400\npeek 1 0x1ffc 4\ngarbage 1 -\n";
     assert_eq!(rt; schedule.config.node.retry, 4);
     let events = schedule.events.as_slice();
     assert_eq!(rt; events.len(), 5);
-    let written = match &events[0] {
-        (
-            6,
-            Event::Call {
-                call: CallText::Write { bytes, .. },
-                ..
-            },
-        ) => bytes.bytes.as_slice() == b"ab".as_slice() && bytes.times == 3,
-        _ => false,
-    };
-    assert!(rt; written);
-    assert!(rt; matches!(events[1], (7, Event::DeliverNext)));
-    assert!(rt; matches!(events[2], (8, Event::Tick { by: 400 })));
+    assert_eq!(rt; [events[0].0, events[1].0, events[4].0], [6, 7, 10]);
+    assert!(rt; writes_ab_3_times(&events[0].1));
+    assert!(rt; matches!(events[1].1, Event::DeliverNext));
     Ok(())
 }
 
@@ -115,7 +116,7 @@ fn a_script_is_read(rt: HostRuntime) -> Result<(), Fail> {
     )?;
     let calls = script.calls.as_slice();
     assert_eq!(rt; calls.len(), 4);
-    assert!(rt; matches!(calls[0], (2, CallText::Alloc { pages: 1, .. })));
-    assert!(rt; matches!(calls[3], (6, CallText::Fence)));
+    assert_eq!(rt; [calls[0].0, calls[3].0], [2, 6]);
+    assert!(rt; matches!(calls[3].1, CallText::Fence));
     Ok(())
 }

@@ -108,9 +108,12 @@ fn print_reply(reply: &Reply, to: &mut Bytes) -> Result<(), NoMemory>
 #[tactic(auto, using(crate::proofs::FrontLemmas::fronts))]
 fn print_exchange(request: &Request, reply: &Reply, to: &mut Bytes) -> Result<(), NoMemory>
     ensures printed { OnOk result
-        (to.new ≡ to.old ++ line_of (request_text request.now ∷ codes "=" ∷ reply_text reply.now ∷ [])) }
+        (to.new ≡ to.old
+        ++ line_of (request_text request.now ∷ codes "=" ∷ reply_text reply.now ∷ [])) }
     ensures front { OnErr result
-        (IsFront to.old (line_of (request_text request.now ∷ codes "=" ∷ reply_text reply.now ∷ [])) to.new) }
+        (IsFront to.old
+        (line_of (request_text request.now ∷ codes "=" ∷ reply_text reply.now ∷ []))
+        to.new) }
 {
     print_request(request, to)?;
     to.append(b" = ")?;

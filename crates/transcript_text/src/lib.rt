@@ -1,7 +1,7 @@
 //! Prints the lines of a transcript: the line of an event, and the line of an entry of the history.
 //!
-//! A contract sees the printed bytes as a list, and a line's text as the definitions of `flat_model`
-//! have it. After want of memory what stood is followed by a front of the text.
+//! A contract sees the printed bytes as a list, and a line's text as the definitions of
+//! `flat_model` have it. After want of memory what stood is followed by a front of the text.
 #![tactic(auto)]
 
 mod did;

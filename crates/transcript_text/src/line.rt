@@ -78,7 +78,8 @@ fn print_ending(ended: &Option<EndedCall>, to: &mut Bytes) -> Result<(), NoMemor
     }
 }
 
-/// Prints the line of an event behind what stands in `to`. `line` is the number of its line in the schedule.
+/// Prints the line of an event behind what stands in `to`. `line` is the number of its line in the
+/// schedule.
 #[tactic(auto, using(crate::proofs::FrontLemmas::fronts))]
 pub fn print_line(line: u32, event: &EventLine, to: &mut Bytes) -> Result<(), NoMemory>
     requires { HasGoodStatus event.now.did }
