@@ -1,0 +1,9 @@
+pub mod Names
+pub mod Records
+pub mod Turns
+pub mod Places
+pub mod Links
+pub mod Walks
+pub mod Chained
+pub mod Noting
+pub mod Looks

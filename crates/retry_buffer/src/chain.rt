@@ -1,0 +1,49 @@
+//! The chain in which a name is looked for.
+
+ghost use Rattle.std.specs.Prelude.{◌≡◌, ◌<◌, ◌≤◌, ◌+◌};
+ghost use Rattle.flat_model.specs.Frames.{kind_number};
+ghost use Rattle.retry_buffer.specs.Chains.{chain_of};
+
+use cl_types::call::Kind;
+use cl_types::numbers::ClientNo;
+
+/// How many ids in a row have chains that stand side by side.
+pub const NEIGHBOURS: u64 = 8;
+
+// An odd number near 2^64 times the golden ratio's part: the hashes of numbers in a row lie far apart.
+const STEP: u64 = 0x9E37_79B9_7F4A_7C15;
+
+// An odd number with no simple ratio to `STEP`, so that the hashes of two senders don't fall together.
+const SENDER: u64 = 0xC2B2_AE3D_27D4_EB4F;
+
+/// The number of the chain of a name, for `capacity` records. The ids from a multiple of 8 to the next have
+/// neighbouring chains: what writes records in order of id then stays in the same lines of memory.
+#[tactic(auto, unfolding(crate::specs::Chains::chain_of))]
+pub fn chain_of(client: ClientNo, kind: Kind, orig: u64, capacity: u32) -> u32
+    requires some { 1 ≤ capacity }
+    requires most { capacity ≤ 65536 }
+    ensures chain { result ≡ chain_of capacity (record { client = client; kind = kind; orig = orig }) }
+    ensures below { result < capacity + 7 }
+{
+    let sender = client.0 as u64 * 8 + kind_number(kind);
+    let hash = (orig / NEIGHBOURS)
+        .wrapping_mul(STEP)
+        .wrapping_add(sender.wrapping_mul(SENDER));
+    // The leading 32 bits of the hash, scaled to the capacity.
+    let first = hash / (1 << 32) * capacity as u64 / (1 << 32);
+    (first + orig % NEIGHBOURS) as u32
+}
+
+/// The number of a kind in a frame.
+pub fn kind_number(kind: Kind) -> u64
+    ensures { result ≡ kind_number kind }
+{
+    match kind {
+        Kind::Alloc => 1,
+        Kind::Free => 2,
+        Kind::Read => 3,
+        Kind::Write => 4,
+        Kind::Atomic => 5,
+        Kind::Offload => 6,
+    }
+}
