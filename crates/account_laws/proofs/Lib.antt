@@ -36,3 +36,4 @@ pub mod StandsKept
 pub mod SpanKept
 pub mod Pieces
 pub mod LocksKept
+pub mod JunkDropped

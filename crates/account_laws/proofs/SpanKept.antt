@@ -26,7 +26,7 @@ record Fair (n : Node) (t : ℕ) : Type 0 where
   past : Each (λ (r : Record). r.moment ≤ t) n.records
 
 -- how an item is handled by these records
-abbrev by_records : List Record → ℕ → ℕ → Item → Handling
+abbrev pub by_records : List Record → ℕ → ℕ → Item → Handling
 by_records records retry t i = handling
     (is_changing i.request)
     (option_map (λ r. r.reply) (record_named (name_of i) records))

@@ -7,5 +7,7 @@ pub mod Times
 pub mod Runs
 pub mod Histories
 pub mod Window
+pub mod Machines
 pub mod Span
 pub mod Locks
+pub mod Junk

@@ -8,6 +8,7 @@ use Rattle.cl_types.specs.declared.limits.TheConstants.{SPAN}
 use Rattle.flat_model.specs.Frames.{Item}
 use Rattle.flat_model.specs.Handling.{latest}
 use Rattle.flat_model.specs.Nodes.{Name, Record, Node, Said, Gives, NodeStep, NodeAnswer, name_of, same_name, record_named, step_item, items_read, node_answer, node_given, keep_every, ideal}
+use Rattle.account_laws.specs.Machines.{Machine, answers_over}
 
 -- what a node is given: bytes, each at a moment
 abbrev pub Given : Type 0
@@ -20,10 +21,13 @@ if_executed (Gives Executed reply) name = name ∷ []
 if_executed other name = []
 
 module _ (keep : ℕ → List Record → List Record) where
+  -- a node as a machine
+  abbrev pub node_machine : Machine Node Given NodeAnswer
+  node_machine = record { answer = λ n g. node_answer keep n g.0 g.1; after = λ n g. node_given keep n g.0 g.1 }
+
   -- the answers to all that it is given, in order
   abbrev pub answers_to : Node → List Given → List NodeAnswer
-  answers_to n [] = []
-  answers_to n (g ∷ gs) = node_answer keep n g.0 g.1 ∷ answers_to (node_given keep n g.0 g.1) gs
+  answers_to = answers_over node_machine
 
   -- the names of the items that were executed, in order
   abbrev pub executed_in : Node → ℕ → List Item → List Name

@@ -1,8 +1,10 @@
-//! A client's state, read off the account of a schedule, is the state of the client's machine.
+//! A client's state, read off the account of a schedule, is the state of the client's machine. And a law of that machine
+//! alone, whatever it is given.
 
 ghost use Rattle.account_laws.specs.ClientLines.{PollLaw, IssueLaw, ReplyLaw, QuietLaw};
 ghost use Rattle.account_laws.specs.Flights.{FlightLaw};
 ghost use Rattle.account_laws.specs.Following.{ClientsFollow, AccountsTell};
+ghost use Rattle.account_laws.specs.Junk.{LawOfJunkHeard};
 ghost use Rattle.account_laws.specs.Readiness.{ReadyLaw, ReadyInAccounts};
 
 /// In the account of every list of events, each line leaves each client as its machine does: a call is judged and
@@ -55,4 +57,12 @@ pub fn law_of_readiness()
 /// A flight of the client's state is a part of an issued call that the account shows as sent so, and not over.
 pub fn law_of_flights()
     ensures { FlightLaw }
+{}
+
+// ---- the machine alone
+
+/// Bad bytes, another client's reply, a late one and one that doesn't fit are nothing: without them a client's other
+/// answers are the same, and so is the client after them.
+pub fn law_of_junk_heard()
+    ensures { LawOfJunkHeard }
 {}

@@ -1,5 +1,6 @@
 //! Laws of a node and of the flat machine alone, whoever sends to it.
 
+ghost use Rattle.account_laws.specs.Junk.{LawOfJunk};
 ghost use Rattle.account_laws.specs.Locks.{LawOfLocks};
 ghost use Rattle.account_laws.specs.Span.{LawOfSpan};
 
@@ -13,4 +14,10 @@ pub fn law_of_span()
 /// releases it: a Write, Unlock, Add or Cas that touches the word, or a Free of its page.
 pub fn law_of_locks()
     ensures { LawOfLocks }
+{}
+
+/// What a node answers with a fault, or with busy to each item, is nothing: without it the other answers are the same,
+/// and so is the node after them, whichever records the node keeps.
+pub fn law_of_junk()
+    ensures { LawOfJunk }
 {}
