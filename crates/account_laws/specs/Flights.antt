@@ -16,4 +16,5 @@ pub record FlightOf (a : Account) (c : ClientNo) (f : Sending) : Type 0 where
 
 -- each flight of a client's state is such a part
 abbrev pub FlightLaw : Type 0
-FlightLaw = (config : Config) (a : Account) (c : ClientNo) → Each (FlightOf a c) (flights (client_at config a c))
+FlightLaw =
+    (config : Config) (a : Account) (c : ClientNo) → Each (FlightOf a c) (flights (client_at config a c))

@@ -28,7 +28,8 @@ after_heard (Some f) reply s = handed_out (after_reply f.part reply s)
 -- a live frame: a reply to this client is heard
 abbrev pub after_load : Load → ClientState → ClientState
 after_load (Asks items) s = s
-after_load (Answers head reply if_taken) s = if same_client s.client head.client then after_heard (flight_under head.orig s) reply s else s
+after_load (Answers head reply if_taken) s =
+    if same_client s.client head.client then after_heard (flight_under head.orig s) reply s else s
 
 -- a frame that was delivered, live or not: only a live one is heard
 abbrev pub after_delivered : Bool → Frame → ClientState → ClientState
@@ -40,10 +41,12 @@ abbrev pub after_frame : ℕ → Option Frame → ClientState → ClientState
 after_frame t None s = s
 after_frame t (Some frame) s = after_delivered (is_live t frame) frame s
 
--- the client after an event: its own calls and polls, and the live replies to it, are steps of the machine; all else leaves it
+-- The client after an event: its own calls and polls, and the live replies to it, are steps of the machine; all else
+-- leaves it.
 abbrev pub after_event : Account → ℕ → Event → ClientState → ClientState
 after_event a l (event.Call client text) s =
-    if same_client s.client client then after_judged (issue_fault s (call_of text)) (call_of text) s else s
+    if same_client s.client client then after_judged (issue_fault s (call_of text)) (call_of text) s
+    else s
 after_event a l (event.Poll client) s =
     if same_client s.client client then handed_out (after_poll (now a l) (poll s (now a l)) s) else s
 after_event a l (event.Deliver frame) s = after_frame (now a l) (frame_at a frame) s
@@ -53,12 +56,15 @@ after_event a l other s = s
 -- in the account of every list of events, each line leaves each client as its machine does
 abbrev pub ClientsFollow : Type 0
 ClientsFollow =
-    (keep : List Entry → List Entry) (config : Config) (events : List (ℕ × Event)) (l : ℕ) (event : Event) (c : ClientNo)
+    (keep : List Entry → List Entry) (config : Config) (events : List (ℕ × Event))
+    (l : ℕ) (event : Event) (c : ClientNo)
     → let a : Account = account_from keep config nothing_yet events in
-    client_at config (next_account keep config a (l, event)) c ≡ after_event a l event (client_at config a c)
+    client_at config (next_account keep config a (l, event)) c
+    ≡ after_event a l event (client_at config a c)
 
--- in every account each part that left flight tells what came of it, and of calls that were not issued nothing is said
+-- In every account each part that left flight tells what came of it, and of calls that were not issued nothing is
+-- said.
 abbrev pub AccountsTell : Type 0
 AccountsTell =
     (keep : List Entry → List Entry) (config : Config) (events : List (ℕ × Event)) (c : ClientNo)
-    → Told (account_from keep config nothing_yet events) c × Fresh (account_from keep config nothing_yet events) c
+    → let a : Account = account_from keep config nothing_yet events in Told a c × Fresh a c

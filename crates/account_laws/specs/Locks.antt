@@ -26,9 +26,11 @@ is_lock other = false
 
 -- the request touches the word by a Write, an Unlock, an Add or a Cas, or frees its page
 abbrev pub may_release : Addr → Request → Bool
-may_release word (request.Write addr bytes) = nat_lt addr.0 (word.0 + 8) && nat_lt word.0 (addr.0 + length bytes)
+may_release word (request.Write addr bytes) =
+    nat_lt addr.0 (word.0 + 8) && nat_lt word.0 (addr.0 + length bytes)
 may_release word (request.Atomic addr op) = addr.0 == word.0 && not (is_lock op)
-may_release word (request.Free addr n) = leb (page_of addr) (page_of word) && nat_lt (page_of word) (page_of addr + n)
+may_release word (request.Free addr n) =
+    leb (page_of addr) (page_of word) && nat_lt (page_of word) (page_of addr + n)
 may_release word other = false
 
 -- the reply is a refusal
@@ -43,6 +45,8 @@ releases pid word e = e.pid == pid && may_release word e.request && not (is_refu
 -- in every run, between two Locks that both took one word stands an entry that releases it
 abbrev pub LawOfLocks : Type 0
 LawOfLocks =
-    (c : NodeConfig) (front between back : List Entry) (first second : Entry) (pid : ℕ) (word : Addr)
-    → IsRun c (front ++ first ∷ (between ++ second ∷ back)) → TakesLock pid word first → TakesLock pid word second
+    (c : NodeConfig) (front between back : List Entry) (first second : Entry)
+    (pid : ℕ) (word : Addr)
+    → IsRun c (front ++ first ∷ (between ++ second ∷ back))
+    → TakesLock pid word first → TakesLock pid word second
     → list_any (releases pid word) between ≡ true

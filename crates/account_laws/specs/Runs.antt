@@ -15,4 +15,6 @@ pub record RunsAndShows (config : Config) (a : Account) : Type 0 where
 
 -- in the account of every schedule with typed events and rising lines it is so
 abbrev pub LawOfRuns : Type 0
-LawOfRuns = (config : Config) (events : List (ℕ × Event)) → IsRisingFrom 0 events → AreTyped events → RunsAndShows config (account config events)
+LawOfRuns =
+    (config : Config) (events : List (ℕ × Event)) → IsRisingFrom 0 events → AreTyped events
+    → RunsAndShows config (account config events)

@@ -32,12 +32,15 @@ module _ (keep : ℕ → List Record → List Record) where
   -- the names of the items that were executed, in order
   abbrev pub executed_in : Node → ℕ → List Item → List Name
   executed_in n t [] = []
-  executed_in n t (i ∷ is) = let step : NodeStep = step_item keep n t i in if_executed step.said (name_of i) ++ executed_in step.node t is
+  executed_in n t (i ∷ is) =
+      let step : NodeStep = step_item keep n t i in
+      if_executed step.said (name_of i) ++ executed_in step.node t is
 
   -- the names of the items that were executed in all that it is given, in order
   abbrev pub executed_over : Node → List Given → List Name
   executed_over n [] = []
-  executed_over n (g ∷ gs) = executed_in n g.0 (items_read g.1) ++ executed_over (node_given keep n g.0 g.1) gs
+  executed_over n (g ∷ gs) =
+      executed_in n g.0 (items_read g.1) ++ executed_over (node_given keep n g.0 g.1) gs
 
 -- ---- the premises
 -- the moments don't fall, from this one on
@@ -47,7 +50,9 @@ AreInTime last (g ∷ gs) = (last ≤ g.0) × AreInTime g.0 gs
 
 -- a changing item whose name is recorded comes less than the span after it was recorded
 abbrev pub IsInSpan : Node → ℕ → Item → Type 0
-IsInSpan n t i = is_changing i.request ≡ true → (r : Record) → record_named (name_of i) n.records ≡ Some r → t < r.moment + SPAN
+IsInSpan n t i =
+    is_changing i.request ≡ true
+    → (r : Record) → record_named (name_of i) n.records ≡ Some r → t < r.moment + SPAN
 
 -- so do all items of a frame, each with those before it
 abbrev pub AreInSpan : Node → ℕ → List Item → Type 0
@@ -57,7 +62,8 @@ AreInSpan n t (i ∷ is) = IsInSpan n t i × AreInSpan (ideal n t i).node t is
 -- and all frames, by the records of the node that keeps all
 abbrev pub KeepSpan : Node → List Given → Type 0
 KeepSpan n [] = Unit {0}
-KeepSpan n (g ∷ gs) = AreInSpan n g.0 (items_read g.1) × KeepSpan (node_given keep_every n g.0 g.1) gs
+KeepSpan n (g ∷ gs) =
+    AreInSpan n g.0 (items_read g.1) × KeepSpan (node_given keep_every n g.0 g.1) gs
 
 -- the node keeps at least one record, has no more than it keeps, and made none later than this
 pub record IsSetUp (n : Node) (last : ℕ) : Type 0 where
@@ -69,10 +75,13 @@ pub record IsSetUp (n : Node) (last : ℕ) : Type 0 where
 -- none of the names is among those so far, each of which counts from then on
 abbrev pub AreNew : List Name → List Name → Type 0
 AreNew so_far [] = Unit {0}
-AreNew so_far (name ∷ names) = (list_any (same_name name) so_far ≡ false) × AreNew (so_far ++ name ∷ []) names
+AreNew so_far (name ∷ names) =
+    (list_any (same_name name) so_far ≡ false) × AreNew (so_far ++ name ∷ []) names
 
 -- a node that keeps the latest replies answers as one that keeps all, and executes no name twice
 abbrev pub LawOfSpan : Type 0
 LawOfSpan =
-    (n : Node) (last : ℕ) (given : List Given) → IsSetUp n last → AreInTime last given → KeepSpan n given
-    → (answers_to latest n given ≡ answers_to keep_every n given) × AreNew (map (λ (r : Record). r.name) n.records) (executed_over latest n given)
+    (n : Node) (last : ℕ) (given : List Given)
+    → IsSetUp n last → AreInTime last given → KeepSpan n given
+    → (answers_to latest n given ≡ answers_to keep_every n given)
+    × AreNew (map (λ (r : Record). r.name) n.records) (executed_over latest n given)

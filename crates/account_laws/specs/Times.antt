@@ -38,7 +38,8 @@ pub record OfAge (a : Account) (f : Frame) (i : Carried) : Type 0 where
 
 -- from this moment on no request frame that carries the part is live
 abbrev pub IsGone : Account → ClientNo → Part → ℕ → Type 0
-IsGone a c p from = EachItem (λ f i. CarriesPart c p i → (t : ℕ) → from ≤ t → is_live t f ≡ false) a.frames
+IsGone a c p from =
+    EachItem (λ f i. CarriesPart c p i → (t : ℕ) → from ≤ t → is_live t f ≡ false) a.frames
 
 -- from the text that gives a part up, no request frame that carries the part is live
 abbrev pub GoneFrom : Account → ℕ → Did → Type 0
@@ -47,7 +48,9 @@ GoneFrom a t other = Unit {0}
 
 -- a request frame that carries the entry's part is live only less than the span after the entry was made
 abbrev pub IsSpent : Account → Entry → Type 0
-IsSpent a e = EachItem (λ f i. CarriesPart e.client e.part i → (t : ℕ) → is_live t f ≡ true → t < now a e.line + SPAN) a.frames
+IsSpent a e =
+    EachItem (λ f i. CarriesPart e.client e.part i
+    → (t : ℕ) → is_live t f ≡ true → t < now a e.line + SPAN) a.frames
 
 -- each item of each frame was sent young, and is live only while its part is young enough
 pub record AreOfAge (a : Account) : Type 0 where
@@ -57,4 +60,6 @@ pub record AreOfAge (a : Account) : Type 0 where
 
 -- in the account of every schedule the times of frames, parts and entries are so
 abbrev pub LawOfTimes : Type 0
-LawOfTimes = (config : Config) (events : List (ℕ × Event)) → IsRisingFrom 0 events → AreOfAge (account config events)
+LawOfTimes =
+    (config : Config) (events : List (ℕ × Event))
+    → IsRisingFrom 0 events → AreOfAge (account config events)

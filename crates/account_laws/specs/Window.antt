@@ -13,16 +13,20 @@ use Rattle.account_laws.specs.Times.{clock, EachItem}
 abbrev pub LatestTell : Config → Account → Frame → Carried → Type 0
 LatestTell config a f i =
     (t : ℕ) → clock a ≤ t → is_live t f ≡ true
-    → record_of (latest config.node.retry (changing_of a.history)) i.item.head.client i.part ≡ record_of (changing_of a.history) i.item.head.client i.part
+    → record_of (latest config.node.retry (changing_of a.history)) i.item.head.client i.part
+    ≡ record_of (changing_of a.history) i.item.head.client i.part
 
 -- in the account of every schedule the latest records tell of a live frame what all records tell
 abbrev pub LawOfWindow : Type 0
 LawOfWindow =
-    (config : Config) (events : List (ℕ × Event)) → 1 ≤ config.node.retry → IsRisingFrom 0 events → AreTyped events
+    (config : Config) (events : List (ℕ × Event))
+    → 1 ≤ config.node.retry → IsRisingFrom 0 events → AreTyped events
     → EachItem (LatestTell config (account config events)) (account config events).frames
 
--- so the account that remembers the latest changing entries, so many as the node keeps, is the account that remembers all
+-- So the account that remembers the latest changing entries, so many as the node keeps, is the account that remembers
+-- all.
 abbrev pub OneAccount : Type 0
 OneAccount =
-    (config : Config) (events : List (ℕ × Event)) → 1 ≤ config.node.retry → IsRisingFrom 0 events → AreTyped events
+    (config : Config) (events : List (ℕ × Event))
+    → 1 ≤ config.node.retry → IsRisingFrom 0 events → AreTyped events
     → account config events ≡ account_of_latest config events
