@@ -30,7 +30,7 @@ use Rattle.account_laws.proofs.Lists.{each_append, each_weaker, each_map, each_f
 use Rattle.account_laws.proofs.SameParts.{same_refl, same_is}
 use Rattle.account_laws.proofs.Items.{items_texts}
 use Rattle.account_laws.proofs.Standings.{frame_kept, ending_by_kept, end_kept, standing_given_up, standing_answered}
-use Rattle.account_laws.proofs.CallsOfClient.{call_so, map_map}
+use Rattle.account_laws.proofs.CallsOfClient.{call_so, map_map, map_same}
 use Rattle.account_laws.proofs.StateRead.{CallOf, calls_are}
 use Rattle.account_laws.proofs.Cases.{IsQuiet, Cases, peek_is_quiet, effect_by}
 use Rattle.account_laws.proofs.TimesKept.{frame_at_each}
@@ -85,14 +85,10 @@ ending_of_standing (Some e) s ms = refl
 ending_of_standing None None ms = refl
 ending_of_standing None (Some (orig, first)) ms = refl
 
-map_so : {X Y : Type 0} (f g : X → Y) → ((x : X) → f x ≡ g x) → (xs : List X) → map f xs ≡ map g xs
-map_so f g h [] = refl
-map_so f g h (x ∷ xs) = λ i. h x i ∷ map_so f g h xs i
-
 pub all_over_is : (a : Account) (c : ClientNo) (n : ℕ) (k : Call) → all_over (call_standing (standing_at a c) (n, k)) ≡ every (map (λ (p : Part × Request). ending a c p.0) (parts_named n k))
 all_over_is a c n k = ap every
     (map_map (λ (p : ClientPart). ending_of p.standing) (standing_so (standing_at a c)) (parts_named n k)
-    ∙ map_so (λ (p : Part × Request). ending_of (standing_at a c p.0)) (λ (p : Part × Request). ending a c p.0) (λ p. ending_of_standing (ending a c p.0) (first_sent a c p.0) (moments_sent a c p.0)) (parts_named n k))
+    ∙ map_same (λ (p : Part × Request). ending_of (standing_at a c p.0)) (λ (p : Part × Request). ending a c p.0) (λ p. ending_of_standing (ending a c p.0) (first_sent a c p.0) (moments_sent a c p.0)) (parts_named n k))
 
 -- a finished call of an account is one that ended
 ended_is : (a : Account) (c : ClientNo) (n : ℕ) (k : Call) → call_at (issued a c) n ≡ Some k → (endings : List Ending) → all_over (call_standing (standing_at a c) (n, k)) ≡ Some endings

@@ -22,11 +22,11 @@ use Rattle.flat_model.specs.Clients.{issued, issued_on, numbered, PartEnd, end_o
 use Rattle.flat_model.specs.Events.{on_judged, on_polled, on_flight, on_items, next_account, account_from}
 use Rattle.account_laws.specs.ClientLines.{Told, Fresh}
 use Rattle.account_laws.specs.Readiness.{FencesLast, runs}
-use Rattle.account_laws.proofs.Lists.{slice_get-append}
+use Rattle.account_laws.proofs.Lists.{slice_get-append, slice_get_within, earlier_there}
 use Rattle.account_laws.proofs.Standings.{line_of, over_kept}
 use Rattle.account_laws.proofs.SameParts.{contrary, eqb_is, same_clients}
 use Rattle.account_laws.proofs.Cases.{Cases, peek_is_quiet, effect_by}
-use Rattle.account_laws.proofs.Premises.{Premises, premises_next, premises_nothing, no_fence_ends, quiet_ends_none, items_end_none, sent_ends_none, slice_get_within}
+use Rattle.account_laws.proofs.Premises.{Premises, premises_next, premises_nothing, no_fence_ends, quiet_ends_none, items_end_none, sent_ends_none}
 use Rattle.account_laws.proofs.CallsOfClient.{every_more, map_map}
 
 -- ---- what has ended stays so
@@ -89,7 +89,7 @@ runs_not a c m k at_place h =
 pub runs_is : (a : Account) (c : ClientNo) (m : ℕ) (k : Call) → slice_get (issued a c) m ≡ Some k → runs a c m ≡ not (has_ended a c (call_standing (standing_at a c) (m + 1, k)))
 runs_is a c m k at_place = ap (λ o. elim o as (λ z. Bool) [ None ↦ false | Some j ↦ not (has_ended a c (call_standing (standing_at a c) (m + 1, j))) ]) at_place
 
-issued_extended : (a : Account) (l : ℕ) (event : Event) (e : Effect) (c : ClientNo) → issued (extended a l event e) c ≡ issued a c ++ filter_map (λ (line : Line). issued_on c line.event line.texts) (line_of a l event e ∷ [])
+pub issued_extended : (a : Account) (l : ℕ) (event : Event) (e : Effect) (c : ClientNo) → issued (extended a l event e) c ≡ issued a c ++ filter_map (λ (line : Line). issued_on c line.event line.texts) (line_of a l event e ∷ [])
 issued_extended a l event e c = filter_map-append (λ (line : Line). issued_on c line.event line.texts) a.lines (line_of a l event e ∷ [])
 
 -- of a call that was issued before, its end stays
@@ -103,12 +103,6 @@ place_of : {X : Type 0} (xs ys : List X) (i : ℕ) (x : X) → slice_get (xs ++ 
 place_of [] ys i x e = inr (omega arith)
 place_of (z ∷ xs) ys zero x e = inl e
 place_of (z ∷ xs) ys (suc i) x e = ⊎_elim (λ (h : slice_get xs i ≡ Some x). inl h) (λ (h : length xs ≤ i). inr (omega arith)) (place_of xs ys i x e)
-
-pub earlier_there : {X : Type 0} (xs : List X) (i n : ℕ) (y : X) → i ≤ n → slice_get xs n ≡ Some y → (x : X) × (slice_get xs i ≡ Some x)
-earlier_there [] i n y l e = grind arith
-earlier_there (x ∷ xs) zero n y l e = (x, refl)
-earlier_there (x ∷ xs) (suc i) zero y l e = absurd (omega arith)
-earlier_there (x ∷ xs) (suc i) (suc n) y l e = earlier_there xs i n y (omega arith) e
 
 -- ---- one line
 -- what is asked of it: a Fence that ends on it is of an issued call, and all calls before that one have ended

@@ -1,5 +1,5 @@
 -- Lemmas on lists.
-use Rattle.std.proofs.Common.{◌≡◌, ℕ, zero, suc, ◌+◌, List, [], ◌∷◌, ◌++◌, refl, ap, ◌∙◌, subst, Some, None, Option, map, Bool, true, false, cond, arith}
+use Rattle.std.proofs.Common.{◌≡◌, ℕ, zero, suc, ◌+◌, List, [], ◌∷◌, ◌++◌, refl, ap, ◌∙◌, subst, Some, None, Option, map, Bool, true, false, cond, arith, length, ◌<◌, ◌≤◌}
 use Rattle.std.specs.Prelude.{filter_map, flat_map, find, filter, option_map, option_and_then, slice_get, unwrap_or}
 use Rattle.std.specs.List.{cons_option, enumerate_from}
 use Rattle.std.specs.List.{AllByRecursion as Each}
@@ -122,6 +122,24 @@ and_then_some f (Some x) y e = (x, refl, e)
 pub none_read : {X Y : Type 0} (f : X → Option Y) (xs : List X) → Each (λ (x : X). f x ≡ None) xs → filter_map f xs ≡ []
 none_read f [] none = refl
 none_read f (x ∷ xs) none = ap (λ o. cons_option o (filter_map f xs)) none.0 ∙ none_read f xs none.1
+
+-- no option is both
+pub none_some : {X : Type 0} (x : X) → ◌≡◌ {A = Option X} None (Some x) → ⊥
+none_some x e = grind arith
+
+-- ---- places
+pub slice_get_within : {X : Type 0} (xs : List X) (i : ℕ) (x : X) → slice_get xs i ≡ Some x → i < length xs
+slice_get_within [] i x e = grind arith
+slice_get_within (y ∷ xs) zero x e = omega arith
+slice_get_within (y ∷ xs) (suc i) x e = let n : i < length xs = slice_get_within xs i x e in omega arith
+
+pub slice_get_there : {X : Type 0} (xs : List X) (i : ℕ) → i < length xs → (x : X) × (slice_get xs i ≡ Some x)
+slice_get_there [] i h = absurd (omega arith)
+slice_get_there (y ∷ xs) zero h = (y, refl)
+slice_get_there (y ∷ xs) (suc i) h = slice_get_there xs i (omega arith)
+
+pub earlier_there : {X : Type 0} (xs : List X) (i n : ℕ) (y : X) → i ≤ n → slice_get xs n ≡ Some y → (x : X) × (slice_get xs i ≡ Some x)
+earlier_there xs i n y low e = slice_get_there xs i (let w : n < length xs = slice_get_within xs n y e in omega arith)
 
 -- ---- entries
 pub each_with_entry : (P : Entry → Type 0) (e : Entry) (h : List Entry) → P e → Each P h → Each P (with_entry e h)

@@ -33,6 +33,7 @@ use Rattle.flat_model.specs.Step.{Outcome, refused, with_fresh, is_range, is_amo
 use Rattle.account_laws.specs.Locks.{TakesLock, is_lock, may_release, is_refused, releases, LawOfLocks}
 use Rattle.account_laws.proofs.SameParts.{and_left, and_right, eqb_is, eqb_same}
 use Rattle.account_laws.proofs.Pieces.{length_with, piece_kept_before, piece_kept_behind, piece_put}
+use Rattle.account_laws.proofs.Lists.{none_some}
 
 abbrev Map : Type 0
 Map = List (Place × Page)
@@ -46,9 +47,6 @@ record IsOne (m : Map) (pid : ℕ) (word : Addr) : Type 0 where
   page : Page
   there : find place_cmp (pid, page_of word) m ≡ Some page
   one : word_at (offset_of word) (bytes_of page) ≡ 1
-
-none_some : {X : Type 0} (x : X) → ◌≡◌ {A = Option X} None (Some x) → ⊥
-none_some x e = grind arith
 
 -- ---- pages put into a map
 put_cases : (q k : Place) (v : Page) (m : Map) (p : Page) → find place_cmp q (put place_cmp k v m) ≡ Some p → ((q ≡ k) × (v ≡ p)) ⊎ (find place_cmp q m ≡ Some p)

@@ -24,7 +24,7 @@ use Rattle.flat_model.specs.Ranges.{is_typed}
 use Rattle.flat_model.specs.Events.{record_of, entry_of, handled, item_handling, on_polled, on_flight, on_item, on_items, then_also, effect, account_from, keep_all}
 use Rattle.account_laws.specs.Flights.{FlightOf}
 use Rattle.account_laws.specs.Schedules.{IsRisingFrom, AreTyped}
-use Rattle.account_laws.proofs.Lists.{each_append, each_weaker, each_weaker_with, each_with_entry, each_with_entries, first_of-append_none}
+use Rattle.account_laws.proofs.Lists.{each_append, each_weaker, each_weaker_with, each_with_entry, each_with_entries, first_of-append_none, none_some}
 use Rattle.account_laws.proofs.SameParts.{contrary, same_refl, same_is}
 use Rattle.account_laws.proofs.Items.{Tells, handling_tells, items_texts}
 use Rattle.account_laws.proofs.Standings.{texts_extended}
@@ -426,9 +426,6 @@ base_nothing config = record {
   followed = followed_nothing;
   once = record { ids = record { below = λ c p o m h. absurd (none_some (o, m) h); one = λ c p q o m n h k. absurd (none_some (o, m) h) }; items = tt; answers = tt; looks = tt; entries = tt; reads_over = tt; distinct = tt };
 }
-  where
-    none_some : (s : ℕ × ℕ) → ◌≡◌ {A = Option (ℕ × ℕ)} None (Some s) → ⊥
-    none_some s z = grind arith
 
 pub base_of_account : (config : Config) (events : List (ℕ × Event)) → IsRisingFrom 0 events → AreTyped events → Base config (account_from keep_all config nothing_yet events) (past 0 events)
 base_of_account config events rising typed = of_account keep_all config (Base config) (base_later config) (base_next config) events rising typed (base_nothing config)

@@ -27,7 +27,7 @@ use Rattle.account_laws.specs.Flights.{FlightOf}
 use Rattle.account_laws.specs.Histories.{LawOfOrder}
 use Rattle.account_laws.specs.Times.{clock}
 use Rattle.account_laws.specs.Schedules.{IsRisingFrom, AreTyped}
-use Rattle.account_laws.proofs.Lists.{each_append, each_weaker, each_weaker_with, each_always, each_first, each_flat_map, each_filter_map_from, each_with_entry, each_with_entries}
+use Rattle.account_laws.proofs.Lists.{each_append, each_weaker, each_weaker_with, each_always, each_first, each_flat_map, each_filter_map_from, each_with_entry, each_with_entries, none_some}
 use Rattle.account_laws.proofs.SameParts.{contrary, same_is}
 use Rattle.account_laws.proofs.Moments.{now_clock}
 use Rattle.account_laws.proofs.Items.{Tells, handling_tells, items_texts}
@@ -372,9 +372,6 @@ order_cases config a l base n = record {
 record WithOrder (config : Config) (a : Account) (l : ℕ) : Type 0 where
   base : Base config a l
   order : InOrder a
-
-none_some : (s : ℕ × ℕ) → ◌≡◌ {A = Option (ℕ × ℕ)} None (Some s) → ⊥
-none_some s z = grind arith
 
 ordered_of_account : (config : Config) (events : List (ℕ × Event)) → IsRisingFrom 0 events → AreTyped events → WithOrder config (account_from keep_all config nothing_yet events) (past 0 events)
 ordered_of_account config events rising typed =

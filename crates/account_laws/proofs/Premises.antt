@@ -1,6 +1,6 @@
 -- In every account each end tells its ending, and nothing is said of calls that were not issued.
 use Rattle.std.proofs.Common.{◌≡◌, ℕ, zero, suc, ◌+◌, ◌<◌, ◌≤◌, List, [], ◌∷◌, ◌++◌, refl, ap, sym, ◌∙◌, subst, Some, None, Option, Bool, true, false, cond, arith, length, length-append}
-use Rattle.std.specs.Prelude.{filter_map, ◌&&◌, ◌||◌, ◌==◌, slice_get, option_map, option_and_then}
+use Rattle.std.specs.Prelude.{filter_map, ◌&&◌, ◌||◌, ◌==◌, option_map, option_and_then}
 use Rattle.std.specs.List.{AllByRecursion as Each, list_any, cons_option}
 use Rattle.std.proofs.lemmas.Bool.Decides.{nat_tests}
 use Rattle.std.proofs.lemmas.List.Elements.{filter_map-append}
@@ -24,7 +24,7 @@ use Rattle.flat_model.specs.Clients.{issued, issued_on, call_at, part_request, r
 use Rattle.flat_model.specs.Events.{on_judged, on_polled, on_flight, on_items, sent_text, next_account}
 use Rattle.account_laws.specs.Flights.{FlightOf}
 use Rattle.account_laws.specs.ClientLines.{Told, Fresh}
-use Rattle.account_laws.proofs.Lists.{each_weaker, none_read, and_then_some, first_of-append, first_of-append_none}
+use Rattle.account_laws.proofs.Lists.{each_weaker, none_read, and_then_some, first_of-append, first_of-append_none, none_some, slice_get_within}
 use Rattle.account_laws.proofs.Standings.{line_of, texts_extended, end_said, ending_by_kept, frame_kept, sent_kept, standing_quiet}
 use Rattle.account_laws.proofs.Items.{items_texts}
 use Rattle.account_laws.proofs.SameParts.{same_is}
@@ -85,9 +85,6 @@ told_kept a l event e c t new = record { told = λ p x h. go p x (end_of_part a 
       (y.0, subst (λ w. ending_by (extended a l event e) c p w ≡ Some y.0) is (ending_by_kept a l event e c p z y.0 y.1))
   go p x None k h = new p x (sym (first_of-append_none (texts_with a (part_end c p)) (filter_map (part_end c p (now a l)) e.texts) k) ∙ h)
 
-pub none_some : {X : Type 0} (x : X) → ◌≡◌ {A = Option X} None (Some x) → ⊥
-none_some x e = grind arith
-
 silent_tells : (a : Account) (l : ℕ) (event : Event) (e : Effect) (c : ClientNo) → ((p : Part) → Each (Silent c p (now a l)) e.texts) → TellsNew a l event e c
 silent_tells a l event e c silent p x h =
     absurd (none_some x (sym (ap first_of (none_read (part_end c p (now a l)) e.texts (each_weaker _ _ (λ d s. s.no_end) e.texts (silent p)))) ∙ h))
@@ -107,11 +104,6 @@ one_tells a l event e c d q x reads tells p z h = go (same_client c d && same_pa
   go false same h = absurd (none_some z h)
 
 -- ---- nothing is said of calls that were not issued
-pub slice_get_within : {X : Type 0} (xs : List X) (i : ℕ) (x : X) → slice_get xs i ≡ Some x → i < length xs
-slice_get_within [] i x e = absurd (none_some x e)
-slice_get_within (y ∷ xs) zero x e = omega arith
-slice_get_within (y ∷ xs) (suc i) x e = let n : i < length xs = slice_get_within xs i x e in omega arith
-
 pub call_at_within : (calls : List Call) (n : ℕ) (k : Call) → call_at calls n ≡ Some k → n ≤ length calls
 call_at_within calls zero k e = omega arith
 call_at_within calls (suc n) k e = slice_get_within calls n k e

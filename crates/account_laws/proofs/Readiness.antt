@@ -6,6 +6,7 @@ use Rattle.std.specs.List.{list_any, slice_range}
 use Rattle.cl_types.specs.declared.call.Call.{Call}
 use Rattle.flat_model.specs.Order.{conflict, both_conflict, is_fence, footprint, collide, waits_for}
 use Rattle.account_laws.specs.Readiness.{WaitsForNone, FencesLast, DependsOnNone, ReadyLaw}
+use Rattle.account_laws.proofs.Lists.{earlier_there}
 
 -- none of a range passes the test
 none_of : {X : Type 0} (test : X → Bool) (xs : List X) (i many : ℕ) → ((f : ℕ) (x : X) → slice_get xs f ≡ Some x → i ≤ f → f < i + many → test x ≡ false) → list_any test (take many (drop i xs)) ≡ false
@@ -35,12 +36,6 @@ no_fence a b h = go (collide (footprint a) (footprint b)) (is_fence a) (is_fence
     go false true z e = grind arith
     go false false z e = (refl, e)
 
-there : {X : Type 0} (xs : List X) (i n : ℕ) (y : X) → i ≤ n → slice_get xs n ≡ Some y → (x : X) × (slice_get xs i ≡ Some x)
-there [] i n y l e = grind arith
-there (x ∷ xs) zero n y l e = (x, refl)
-there (x ∷ xs) (suc i) zero y l e = absurd (omega arith)
-there (x ∷ xs) (suc i) (suc n) y l e = there xs i n y (omega arith) e
-
 pub ready_means : (calls : List Call) (still : ℕ → Bool) (n : ℕ) (k : Call) → slice_get calls n ≡ Some k → FencesLast calls still → WaitsForNone calls still n k → DependsOnNone calls still n
 ready_means calls still n k at last waits m less runs = both (both_conflict (slice_get calls m) (slice_get calls n)) (list_any is_fence (slice_range calls m (n + 1))) apart no_fences
   where
@@ -49,7 +44,7 @@ ready_means calls still n k at last waits m less runs = both (both_conflict (sli
     both false b e f = f
 
     x : (x : Call) × (slice_get calls m ≡ Some x)
-    x = there calls m n k (omega arith) at
+    x = earlier_there calls m n k (omega arith) at
 
     free : waits_for (footprint x.0) (footprint k) ≡ false
     free = waits m x.0 x.1 less runs

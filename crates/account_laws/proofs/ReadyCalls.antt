@@ -16,6 +16,7 @@ use Rattle.flat_model.specs.Events.{account_from}
 use Rattle.account_laws.specs.Readiness.{WaitsForNone, runs, ReadyInAccounts}
 use Rattle.account_laws.proofs.Fences.{Followed, followed, runs_is, standing_calls, standing_place}
 use Rattle.account_laws.proofs.Readiness.{ready_means, means_ready}
+use Rattle.account_laws.proofs.SameParts.{and_left, and_right}
 
 -- the zeros of a buffer count as its bytes
 pub print_emptied : (k : Call) → footprint (emptied k) ≡ footprint k
@@ -28,14 +29,6 @@ print_emptied (call.Offload number op bytes buf) = refl
 print_emptied call.Fence = refl
 
 -- ---- what holds of all that pass a test
-and_left : (a b : Bool) → (a && b) ≡ true → a ≡ true
-and_left true b e = refl
-and_left false b e = e
-
-and_right : (a b : Bool) → (a && b) ≡ true → b ≡ true
-and_right true b e = e
-and_right false b e = grind arith
-
 all_passes : {Y Z : Type 0} (T : Z → Bool) (f : Y → Z) (test : Y → Bool) (ys : List Y) → list_all T (map f (filter test ys)) ≡ true → (m : ℕ) (y : Y) → slice_get ys m ≡ Some y → test y ≡ true → T (f y) ≡ true
 all_passes T f test [] h m y at_place passes = grind arith
 all_passes {Y} {Z} T f test (x ∷ ys) h zero y at_place passes = go (test x) (let same : x ≡ y = cc in subst (λ (z : Y). test z ≡ true) (sym same) passes) h where

@@ -3,7 +3,6 @@ use Rattle.std.proofs.Common.{◌≡◌, ℕ, zero, suc, ◌+◌, ◌-◌, ◌<�
 use Rattle.std.specs.Prelude.{filter_map, is_some, slice_get, option_map, option_and_then, ◌||◌}
 use Rattle.std.specs.List.{AllByRecursion as Each, list_any, slice_range}
 use Rattle.std.proofs.lemmas.List.{take-append-le, drop-append-le, length-drop}
-use Rattle.std.proofs.lemmas.List.Elements.{filter_map-append}
 use Rattle.cl_types.specs.declared.config.Config.{Config}
 use Rattle.cl_types.specs.declared.numbers.ClientNo.{ClientNo}
 use Rattle.cl_types.specs.declared.call.Call.{Call}
@@ -19,12 +18,12 @@ use Rattle.flat_model.specs.Client.{ClientPart, prints, emptied, named, parts_na
 use Rattle.flat_model.specs.Clients.{issued, issued_on, call_at, part_request, request_of_part, first_sent, first_sending, first_of, end_of_part, ending, ending_by, standing_at, ends_fence, has_ended, sendings, client_at}
 use Rattle.flat_model.specs.Properties.{DependsOn}
 use Rattle.account_laws.specs.Readiness.{runs, DependsOnNone}
-use Rattle.account_laws.proofs.Lists.{slice_get-append, and_then_some, option_map_some}
+use Rattle.account_laws.proofs.Lists.{slice_get-append, and_then_some, option_map_some, none_some, slice_get_there}
 use Rattle.account_laws.proofs.SameParts.{contrary}
 use Rattle.account_laws.proofs.Standings.{line_of}
 use Rattle.account_laws.proofs.StateRead.{SendableOf}
-use Rattle.account_laws.proofs.Premises.{call_at_within, none_some}
-use Rattle.account_laws.proofs.Fences.{Followed, runs_not, standing_calls}
+use Rattle.account_laws.proofs.Premises.{call_at_within}
+use Rattle.account_laws.proofs.Fences.{Followed, issued_extended, runs_not, standing_calls}
 use Rattle.account_laws.proofs.ReadyCalls.{print_emptied, goes_waits}
 use Rattle.account_laws.proofs.Readiness.{ready_means}
 use Rattle.account_laws.proofs.PartsOnce.{is_over}
@@ -32,13 +31,8 @@ use Rattle.account_laws.proofs.Parts.{request_kept, is_over_kept, sent_cases, No
 use Rattle.account_laws.proofs.AnswersKept.{all_over_is}
 
 -- ---- more calls
-there : {X : Type 0} (xs : List X) (i : ℕ) → i < length xs → (x : X) × (slice_get xs i ≡ Some x)
-there [] i h = absurd (omega arith)
-there (y ∷ xs) zero h = (y, refl)
-there (y ∷ xs) (suc i) h = there xs i (omega arith)
-
 slice_get-more : {X : Type 0} (xs ys : List X) (i : ℕ) → i < length xs → slice_get (xs ++ ys) i ≡ slice_get xs i
-slice_get-more xs ys i h = let x = there xs i h in slice_get-append xs ys i x.0 x.1 ∙ sym x.1
+slice_get-more xs ys i h = let x = slice_get_there xs i h in slice_get-append xs ys i x.0 x.1 ∙ sym x.1
 
 range-more : {X : Type 0} (xs ys : List X) (i j : ℕ) → i ≤ j → j < length xs → slice_range (xs ++ ys) i (j + 1) ≡ slice_range xs i (j + 1)
 range-more xs ys i j h k =
@@ -142,9 +136,6 @@ pub record Settled (a : Account) : Type 0 where
 
 abbrev new_calls : Account → ℕ → Event → Effect → ClientNo → List Call
 new_calls a l event e c = filter_map (λ (line : Line). issued_on c line.event line.texts) (line_of a l event e ∷ [])
-
-issued_extended : (a : Account) (l : ℕ) (event : Event) (e : Effect) (c : ClientNo) → issued (extended a l event e) c ≡ issued a c ++ new_calls a l event e c
-issued_extended a l event e c = filter_map-append (λ (line : Line). issued_on c line.event line.texts) a.lines (line_of a l event e ∷ [])
 
 -- the call of an issued part lies within the calls so far
 part_within : (a : Account) (c : ClientNo) (q : Part) (r : Request) → request_of_part a c q ≡ Some r → q.call.0 ≤ length (issued a c)

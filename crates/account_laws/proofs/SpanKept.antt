@@ -1,6 +1,6 @@
 -- The law of the span, by the node that keeps all.
-use Rattle.std.proofs.Common.{◌≡◌, ℕ, zero, suc, ◌+◌, ◌-◌, ◌<◌, ◌≤◌, List, [], ◌∷◌, ◌++◌, refl, sym, ap, ◌∙◌, subst, Bool, true, false, cond, arith, Some, None, Option, length, map, drop, append_assoc}
-use Rattle.std.specs.Prelude.{option_map, slice_get, ◌||◌}
+use Rattle.std.proofs.Common.{◌≡◌, ℕ, ◌+◌, ◌-◌, ◌<◌, ◌≤◌, List, [], ◌∷◌, ◌++◌, refl, sym, ap, ◌∙◌, subst, Bool, true, false, cond, arith, Some, None, Option, length, map, drop, append_assoc}
+use Rattle.std.specs.Prelude.{option_map, ◌||◌}
 use Rattle.std.specs.List.{AllByRecursion as Each, list_any}
 use Rattle.std.proofs.lemmas.List.{append-nil, map-append}
 use Rattle.cl_types.specs.Requests.{is_changing}
@@ -10,7 +10,7 @@ use Rattle.flat_model.specs.Frames.{Item, request_fault}
 use Rattle.flat_model.specs.Handling.{Handling, Repeats, RefusesForNow, Executes, Looks, handling, item_outcome, latest, oldest_of}
 use Rattle.flat_model.specs.Nodes.{Name, Record, Node, NodeStep, Says, name_of, same_name, record_named, handles, node_after, said_to, items_judged, items_read, answer_judged, node_answer, node_given, keep_every, keeping, ideal}
 use Rattle.account_laws.specs.Span.{Given, answers_to, if_executed, executed_in, executed_over, AreInTime, IsInSpan, AreInSpan, KeepSpan, IsSetUp, AreNew, LawOfSpan}
-use Rattle.account_laws.proofs.Lists.{each_append, each_weaker}
+use Rattle.account_laws.proofs.Lists.{each_append, each_weaker, slice_get_within}
 use Rattle.account_laws.proofs.Items.{HandledBy, handled_by}
 use Rattle.account_laws.proofs.Window.{Spaced, spaced_more, window, window_none, oldest_latest, latest_more}
 
@@ -167,11 +167,7 @@ all_kept (g ∷ gs) n last fair times span =
 
 -- ---- the law
 none_that_far : (n : Node) (last : ℕ) → IsSetUp n last → Spaced {X = Record} (λ r. r.moment) n.retry n.records
-none_that_far n last set k x y at_place far = let w : k + n.retry < length n.records = within n.records (k + n.retry) y far in let few : length n.records ≤ n.retry = set.few in absurd (omega arith) where
-  within : (xs : List Record) (i : ℕ) (x : Record) → slice_get xs i ≡ Some x → i < length xs
-  within [] i x e = grind arith
-  within (y ∷ xs) zero x e = omega arith
-  within (y ∷ xs) (suc i) x e = let n : i < length xs = within xs i x e in omega arith
+none_that_far n last set k x y at_place far = let w : k + n.retry < length n.records = slice_get_within n.records (k + n.retry) y far in let few : length n.records ≤ n.retry = set.few in absurd (omega arith)
 
 kept_is : (n : Node) (last : ℕ) → IsSetUp n last → kept n ≡ n
 kept_is n last set = let few : length n.records ≤ n.retry = set.few in ap (λ (m : ℕ). record n { records = drop m n.records }) (let z : length n.records - n.retry ≡ 0 = omega arith in z)

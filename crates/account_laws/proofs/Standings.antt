@@ -2,7 +2,7 @@
 use Rattle.std.proofs.Common.{◌≡◌, ℕ, zero, suc, List, [], ◌∷◌, ◌++◌, refl, ap, sym, ◌∙◌, Some, None, Option, Bool, true, false, cond, arith, map}
 use Rattle.std.specs.List.{cons_option}
 use Rattle.std.proofs.Common.{append_assoc}
-use Rattle.std.specs.Prelude.{filter_map, ◌&&◌, slice_get, option_map, option_and_then}
+use Rattle.std.specs.Prelude.{filter_map, ◌&&◌, option_map, option_and_then}
 use Rattle.std.proofs.lemmas.List.{append-nil}
 use Rattle.std.proofs.lemmas.Grind.{flat_map-append}
 use Rattle.cl_types.specs.declared.numbers.ClientNo.{ClientNo}
@@ -18,6 +18,7 @@ use Rattle.flat_model.specs.Events.{sent_text}
 use Rattle.flat_model.specs.Clients.{texts_on, texts_with, first_of, last_of, first_sending, first_sent, sending_on, moments_sent, PartEnd, TookFrame, GaveUpAt, part_end, end_of_part, replied, ending_by, ending, standing, standing_at}
 use Rattle.account_laws.specs.ClientLines.{Told}
 use Rattle.account_laws.proofs.SameParts.{eqb_same}
+use Rattle.account_laws.proofs.Lists.{first_of-append, first_of-append_none, slice_get-append, and_then_some, option_map_some}
 
 abbrev pub line_of : Account → ℕ → Event → Effect → Line
 line_of a l event e = record { number = l; moment = now a l; event = event; texts = e.texts; ended = e.ended }
@@ -25,35 +26,14 @@ line_of a l event e = record { number = l; moment = now a l; event = event; text
 pub texts_extended : {A : Type 0} (f : ℕ → Did → Option A) (a : Account) (l : ℕ) (event : Event) (e : Effect) → texts_with (extended a l event e) f ≡ texts_with a f ++ filter_map (f (now a l)) e.texts
 texts_extended f a l event e = flat_map-append (texts_on f) a.lines (line_of a l event e ∷ []) ∙ ap (λ z. texts_with a f ++ z) (append-nil _)
 
-pub first_of-append : {X : Type 0} (xs ys : List X) (x : X) → first_of xs ≡ Some x → first_of (xs ++ ys) ≡ Some x
-first_of-append [] ys x e = grind arith
-first_of-append (y ∷ xs) ys x e = e
-
-pub first_of-append_none : {X : Type 0} (xs ys : List X) → first_of xs ≡ None → first_of (xs ++ ys) ≡ first_of ys
-first_of-append_none [] ys e = refl
-first_of-append_none (y ∷ xs) ys e = grind arith
-
 pub last_of-append : {X : Type 0} (x : X) (xs ys : List X) → last_of x (xs ++ ys) ≡ last_of (last_of x xs) ys
 last_of-append x [] ys = refl
 last_of-append x (y ∷ xs) ys = last_of-append y xs ys
 
 -- ---- what stays
-slice_get-append : {X : Type 0} (xs ys : List X) (i : ℕ) (x : X) → slice_get xs i ≡ Some x → slice_get (xs ++ ys) i ≡ Some x
-slice_get-append [] ys i x e = grind arith
-slice_get-append (y ∷ xs) ys zero x e = e
-slice_get-append (y ∷ xs) ys (suc i) x e = slice_get-append xs ys i x e
-
 pub frame_kept : (a : Account) (l : ℕ) (event : Event) (e : Effect) (k : ℕ) (f : Frame) → frame_at a k ≡ Some f → frame_at (extended a l event e) k ≡ Some f
 frame_kept a l event e zero f h = grind arith
 frame_kept a l event e (suc k) f h = slice_get-append a.frames e.frames k f h
-
-and_then_some : {X Y : Type 0} (f : X → Option Y) (o : Option X) (y : Y) → option_and_then f o ≡ Some y → (x : X) × (o ≡ Some x) × (f x ≡ Some y)
-and_then_some f None y e = grind arith
-and_then_some f (Some x) y e = (x, refl, e)
-
-option_map_some : {X Y : Type 0} (f : X → Y) (o : Option X) (y : Y) → option_map f o ≡ Some y → (x : X) × (o ≡ Some x) × (f x ≡ y)
-option_map_some f None y e = grind arith
-option_map_some f (Some x) y e = (x, refl, grind arith)
 
 pub sent_kept : (a : Account) (l : ℕ) (event : Event) (e : Effect) (c : ClientNo) (p : Part) (s : ℕ × ℕ) → first_sent a c p ≡ Some s → first_sent (extended a l event e) c p ≡ Some s
 sent_kept a l event e c p s h = ap first_of (texts_extended (first_sending c p) a l event e) ∙ first_of-append (texts_with a (first_sending c p)) _ s h

@@ -27,14 +27,13 @@ use Rattle.flat_model.specs.Properties.{is_delivery, CarriesPart, Handles, IsFir
 use Rattle.flat_model.specs.Events.{entry_of, handled, item_handling, on_flight, on_item, on_items, effect, account, account_from, keep_all}
 use Rattle.account_laws.specs.Histories.{LawOfStands}
 use Rattle.account_laws.specs.Schedules.{IsRisingFrom, AreTyped}
-use Rattle.account_laws.proofs.Lists.{each_append, each_weaker, each_weaker_with, each_with_entries}
+use Rattle.account_laws.proofs.Lists.{each_append, each_weaker, each_weaker_with, each_with_entries, none_some}
 use Rattle.account_laws.proofs.SameParts.{contrary}
 use Rattle.account_laws.proofs.Items.{Tells, handling_tells}
 use Rattle.account_laws.proofs.Standings.{line_of, frame_kept}
 use Rattle.account_laws.proofs.Cases.{IsQuiet, IsGiven, Cases, peek_is_quiet, effect_by}
 use Rattle.account_laws.proofs.TimesKept.{frame_at_each}
 use Rattle.account_laws.proofs.Places.{line_of_before}
-use Rattle.account_laws.proofs.Premises.{none_some}
 use Rattle.account_laws.proofs.Ran.{InRange, Ran}
 use Rattle.account_laws.proofs.RunKept.{item_runs, with_entries-append}
 use Rattle.account_laws.proofs.PartsOnce.{ItemOwned, EntryOwned, IsEntry, HasEntry, ReplyStands}

@@ -6,17 +6,12 @@ use Rattle.std.proofs.lemmas.List.{length-drop, drop-append-le, drop-drop}
 use Rattle.std.specs.List.{AllByRecursion as Each}
 use Rattle.cl_types.specs.declared.limits.TheConstants.{SPAN}
 use Rattle.flat_model.specs.Handling.{latest, oldest_of, is_young}
-use Rattle.account_laws.proofs.Lists.{each_slice_get}
+use Rattle.account_laws.proofs.Lists.{each_slice_get, slice_get_within, slice_get_there}
 
 module _ {X : Type 0} (moment : X → ℕ) (R : ℕ) where
   -- a record stands at least the span after the one that is so many places before it
   abbrev pub Spaced : List X → Type 0
   Spaced xs = (k : ℕ) (x y : X) → slice_get xs k ≡ Some x → slice_get xs (k + R) ≡ Some y → moment x + SPAN ≤ moment y
-
-  there : (xs : List X) (i : ℕ) → i < length xs → (x : X) × (slice_get xs i ≡ Some x)
-  there [] i h = absurd (omega arith)
-  there (y ∷ xs) zero h = (y, refl)
-  there (y ∷ xs) (suc i) h = there xs i (omega arith)
 
   spaced_rest : (x : X) (xs : List X) → Spaced (x ∷ xs) → Spaced xs
   spaced_rest x xs s k y z e f = s (suc k) y z e (subst (λ n. slice_get (x ∷ xs) n ≡ Some z) (let z : suc (k + R) ≡ suc k + R = omega arith in z) f)
@@ -34,7 +29,7 @@ module _ {X : Type 0} (moment : X → ℕ) (R : ℕ) where
       go : (b : Bool) → cond b (Some y) (find test xs) ≡ Some x → R < length (y ∷ xs) → (find test xs ≡ Some x → t < moment x + SPAN → find test (drop (length xs - R) xs) ≡ Some x) → find test (drop (length xs - R) xs) ≡ Some x
       go true e many rec =
           let same : y ≡ x = cc in
-          let z = there (y ∷ xs) R many in
+          let z = slice_get_there (y ∷ xs) R many in
           let far : moment y + SPAN ≤ moment z.0 = s 0 y z.0 refl (subst (λ n. slice_get (y ∷ xs) n ≡ Some z.0) (let w : R ≡ 0 + R = omega arith in w) z.1) in
           let old : moment z.0 ≤ t = each_slice_get (λ (x : X). moment x ≤ t) (y ∷ xs) R z.0 low z.1 in
           let now : t < moment y + SPAN = subst (λ w. t < moment w + SPAN) (sym same) h in
@@ -94,11 +89,6 @@ last_of_more [] y z (suc n) e = grind arith
 last_of_more (x ∷ xs) y z zero e = inl e
 last_of_more (x ∷ xs) y z (suc n) e =
     ⊎_elim (λ (h : slice_get xs n ≡ Some z). inl h) (λ (h : (n ≡ length xs) × (y ≡ z)). let m : n ≡ length xs = h.0 in inr (omega arith, h.1)) (last_of_more xs y z n e)
-
-slice_get_within : {X : Type 0} (xs : List X) (i : ℕ) (x : X) → slice_get xs i ≡ Some x → i < length xs
-slice_get_within [] i x e = grind arith
-slice_get_within (y ∷ xs) zero x e = omega arith
-slice_get_within (y ∷ xs) (suc i) x e = let n : i < length xs = slice_get_within xs i x e in omega arith
 
 module _ {X : Type 0} (moment : X → ℕ) (R : ℕ) where
   -- the oldest of the latest, so many, isn't young

@@ -25,14 +25,13 @@ use Rattle.flat_model.specs.Events.{record_of, entry_of, handled, item_handling,
 use Rattle.account_laws.specs.Times.{clock, FirstAt}
 use Rattle.account_laws.specs.Schedules.{IsRisingFrom, AreTyped}
 use Rattle.account_laws.specs.Window.{LawOfWindow, OneAccount}
-use Rattle.account_laws.proofs.Lists.{each_weaker, each_always, each_filter_from, each_slice_get, each_with_entries, find_some}
+use Rattle.account_laws.proofs.Lists.{each_weaker, each_always, each_filter_from, each_slice_get, each_with_entries, find_some, none_some}
 use Rattle.account_laws.proofs.SameParts.{same_is}
 use Rattle.account_laws.proofs.Moments.{now_kept, now_clock, first_not_after}
 use Rattle.account_laws.proofs.Items.{Tells, handling_tells}
 use Rattle.account_laws.proofs.Cases.{IsGiven, Cases, peek_is_quiet, effect_by}
 use Rattle.account_laws.proofs.TimesKept.{SentYoung, Entered, Times, first_same, frame_at_each, times_later, times_next, times_nothing}
 use Rattle.account_laws.proofs.Insert.{with_last, all_before, filter_with_entry}
-use Rattle.account_laws.proofs.Premises.{none_some}
 use Rattle.account_laws.proofs.Ran.{InRange, LookOf, Ran}
 use Rattle.account_laws.proofs.RunKept.{item_runs, joined_twice, ran_later, ran_next, ran_nothing}
 use Rattle.account_laws.proofs.Window.{Spaced, IsOld, spaced_more, window, window_none, oldest_latest}
