@@ -1,12 +1,12 @@
 -- The number of words.
-use Rattle.std.proofs.Common.{◌≡◌, ℕ, zero, suc, ◌+◌, ◌<◌, ◌==◌, Bool, true, false, nat_lt, cond, List, [], ◌∷◌, length, refl, sym, ◌∙◌, ap, arith, Option, Some, None, Result, Ok, Err}
+use Rattle.std.proofs.Common.{◌≡◌, ℕ, ◌<◌, ◌==◌, Bool, true, false, nat_lt, cond, List, [], ◌∷◌, length, ap, arith, Option, Some, None, Err}
 use Rattle.std.specs.List.{slice_split}
 use Rattle.std.proofs.lemmas.Bool.Decides.{nat_tests}
 use Rattle.std.proofs.lemmas.List.Splits.{length-slice_split}
 use Rattle.cl_types.specs.declared.schedule.What.{What}
 use Rattle.cl_types.specs.declared.schedule.What.TheVariants.{MissingWord, ExtraWord}
 use Rattle.flat_model.specs.Text.{Text}
-use Rattle.flat_model.specs.Words.{Argument, Value, values_in}
+use Rattle.flat_model.specs.Words.{Argument}
 use Rattle.schedule_text.specs.Arguments.{arguments_after, count_fault, values_after}
 
 -- bytes have a part, however few they are

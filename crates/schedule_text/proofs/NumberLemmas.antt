@@ -1,11 +1,11 @@
 -- Numbers and addresses by what their digits spell.
-use Rattle.std.proofs.Common.{◌≡◌, ℕ, zero, suc, ◌+◌, ◌-◌, ◌*◌, ◌^◌, ◌<◌, ◌≤◌, ◌==◌, Bool, true, false, ◌&&◌, nat_lt, leb, cond, List, [], ◌∷◌, length, take, drop, get_or, refl, sym, ◌∙◌, ap, arith, Option, Some, None, option_map, codes}
+use Rattle.std.proofs.Common.{◌≡◌, ℕ, zero, suc, ◌+◌, ◌-◌, ◌*◌, ◌^◌, ◌<◌, ◌≤◌, ◌==◌, Bool, true, false, ◌&&◌, nat_lt, leb, cond, [], ◌∷◌, length, refl, sym, ◌∙◌, ap, arith, Option, Some, None, option_map}
 use Rattle.std.specs.List.{fold, list_all}
 use Rattle.std.proofs.lemmas.Bool.{and_parts, ltb-false}
 use Rattle.std.proofs.lemmas.Bool.Decides.{nat_tests}
 use Rattle.std.proofs.Math.Nat.{mul-le-mul_left, mul_assoc, mul_comm, one-le-pow, pow-suc}
 use Rattle.cl_types.specs.declared.numbers.Addr.{Addr}
-use Rattle.flat_model.specs.Text.{Text, is_text}
+use Rattle.flat_model.specs.Text.{Text}
 use Rattle.flat_model.specs.Words.{address_in, address_of_digits, hex_value, is_digit, is_hex_digit, is_plain, number_in, value_in}
 use Rattle.schedule_text.specs.Digits.{spelled}
 use Rattle.schedule_text.proofs.DigitLemmas.{checked, spelled_is}

@@ -1,5 +1,5 @@
 -- A script's lines, one after another.
-use Rattle.std.proofs.Common.{◌≡◌, ℕ, suc, ◌+◌, ◌==◌, Bool, length, arith, true, false, List, [], ◌∷◌, ◌++◌, refl, sym, ◌∙◌, ap, append_assoc, append-nil, Result, Ok, Err, Option, None}
+use Rattle.std.proofs.Common.{◌≡◌, ℕ, suc, ◌+◌, ◌==◌, Bool, length, arith, true, false, List, [], ◌∷◌, ◌++◌, refl, sym, ◌∙◌, ap, append_assoc, append-nil, Result, Ok, Err, None}
 use Rattle.std.proofs.lemmas.Bool.Decides.{nat_tests}
 use Rattle.cl_types.specs.declared.schedule.CallText.{CallText}
 use Rattle.cl_types.specs.declared.schedule.What.{What}
@@ -9,7 +9,12 @@ use Rattle.schedule_text.specs.Reading.{Reads, too_long_of}
 use Rattle.schedule_text.specs.Telling.{LeavesOf}
 use Rattle.schedule_text.specs.declared.fault.ScheduleFault.{ScheduleFault}
 use Rattle.schedule_text.specs.declared.fault.ScheduleFault.TheVariants.{Line, TooLong, NoMemory}
-use Rattle.schedule_text.specs.Script.{Calls, with_call, with_line, with_lines}
+use Rattle.schedule_text.specs.Script.{Calls, with_call, with_line}
+
+-- the calls so far, and those of more lines
+unfoldable pub with_lines : Calls → ℕ → List Text → Result Calls Fault
+with_lines calls number [] = Ok calls
+with_lines calls number (line ∷ lines) = elim (with_line calls number line) [ Err fault ↦ Err fault | Ok more ↦ with_lines more (number + 1) lines ]
 
 -- one line more
 pub read_on : (calls more : Calls) (number : ℕ) (line : Text) (lines : List Text) → with_line calls number line ≡ Ok more

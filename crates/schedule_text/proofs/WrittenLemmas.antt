@@ -1,9 +1,9 @@
 -- Written bytes.
-use Rattle.std.proofs.Common.{◌≡◌, ℕ, zero, suc, ◌+◌, ◌++◌, replicate, append_assoc, append-nil, add-one, ◌*◌, ◌/◌, ◌≤◌, ◌==◌, Bool, true, false, ◌&&◌, leb, cond, List, [], ◌∷◌, length, refl, sym, ◌∙◌, ap, arith, Option, Some, None, inl, inr, ◌⊎◌}
+use Rattle.std.proofs.Common.{◌≡◌, ℕ, zero, suc, ◌+◌, ◌++◌, replicate, append_assoc, append-nil, add-one, ◌==◌, Bool, true, false, ◌&&◌, cond, List, [], ◌∷◌, refl, sym, ◌∙◌, ap, arith, Some, None, inl, inr, ◌⊎◌}
 use Rattle.std.specs.List.{concat, list_all, onto_first, slice_split}
 use Rattle.std.proofs.lemmas.Bool.Decides.{nat_tests}
 use Rattle.flat_model.specs.Text.{Text}
-use Rattle.flat_model.specs.Words.{is_digit, is_plain, number_in, times_in, most_written}
+use Rattle.flat_model.specs.Words.{is_digit, is_plain, number_in, times_in}
 
 -- parts of a text at its stars: it is one, or there are two and more, and it isn't all digits
 abbrev IsOne : Text → Type 0

@@ -1,5 +1,5 @@
--- Arguments behind a word that may be bad itself.
-use Rattle.std.specs.Prelude.{ℕ, nat_lt, List, length, if◌then◌else◌, Option, Some, None, Result, Ok, Err}
+-- Arguments behind a word that may be bad itself. No public clause cites this module.
+use Rattle.std.specs.Prelude.{ℕ, nat_lt, List, length, if◌then◌else◌, Option, Some, None, Result, Err}
 use Rattle.cl_types.specs.declared.schedule.What.{What}
 use Rattle.cl_types.specs.declared.schedule.What.TheVariants.{MissingWord, ExtraWord}
 use Rattle.flat_model.specs.Text.{Text}
@@ -15,6 +15,7 @@ abbrev pub values_after : Option What → List Argument → List Text → Result
 values_after None arguments texts = values_in arguments texts
 values_after (Some what) arguments texts = Err what
 
+-- the same, where there are as many words as arguments
 abbrev pub arguments_after : Option What → List Argument → List Text → Result (List Value) What
 arguments_after before arguments texts =
     if nat_lt (length texts) (length arguments) then Err MissingWord

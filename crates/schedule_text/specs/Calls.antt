@@ -1,5 +1,5 @@
--- The words of calls, and what stands behind each.
-use Rattle.std.specs.Prelude.{List, [], ◌∷◌, Option, Some, None, Result, Ok, Err, codes}
+-- The words of calls, and what stands behind each. No public clause cites this module.
+use Rattle.std.specs.Prelude.{List, [], ◌∷◌, Option, Result, codes}
 use Rattle.std.specs.Borrow.{Bor}
 use Rattle.cl_types.specs.declared.schedule.CallText.{CallText}
 use Rattle.cl_types.specs.declared.schedule.What.{What}

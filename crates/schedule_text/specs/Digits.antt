@@ -1,4 +1,4 @@
--- Digits, one after another.
+-- Digits, one after another. No public clause cites this module.
 use Rattle.std.specs.Prelude.{ℕ, ◌+◌, ◌*◌, ◌&&◌, nat_lt, Bool, List, if◌then◌else◌, Option, Some, None}
 use Rattle.std.specs.List.{fold}
 

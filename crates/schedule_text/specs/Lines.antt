@@ -1,12 +1,12 @@
--- The lines of a schedule by their first words, and what they say.
-use Rattle.std.specs.Prelude.{ℕ, List, [], ◌∷◌, Option, Result, Ok, Err, codes}
+-- The lines of a schedule by their first words, and what they say. No public clause cites this module.
+use Rattle.std.specs.Prelude.{List, [], ◌∷◌, Option, Result, Ok, Err, codes}
 use Rattle.std.specs.Borrow.{Bor}
 use Rattle.cl_types.specs.declared.numbers.ClientNo.{ClientNo}
 use Rattle.cl_types.specs.declared.schedule.CallText.{CallText}
 use Rattle.cl_types.specs.declared.schedule.Event.TheVariants as event
 use Rattle.cl_types.specs.declared.schedule.What.{What}
 use Rattle.flat_model.specs.Text.{Text}
-use Rattle.flat_model.specs.Words.{Address, Number, BytesWord}
+use Rattle.flat_model.specs.Words.{Address, Number}
 use Rattle.flat_model.specs.Grammar.{Begun, bare, client_says, form, in_call, in_deliver, in_garbage, in_offload, node_says, of_number, peek_says, said_in_form, u16, u64}
 use Rattle.flat_model.specs.Grammar as grammar
 use Rattle.schedule_text.specs.Parts.{words_left}

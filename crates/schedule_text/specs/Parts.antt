@@ -1,4 +1,4 @@
--- Parts of bytes that are still to be read.
+-- Parts of bytes that are still to be read. No public clause cites this module.
 use Rattle.std.specs.Prelude.{ℕ, ◌==◌, List, [], Option, Some, None}
 use Rattle.std.specs.Borrow.{Bor}
 use Rattle.std.specs.List.{slice_split}

@@ -1,5 +1,5 @@
--- What was read of a schedule so far, and what a line adds.
-use Rattle.std.specs.Prelude.{◌≡◌, ℕ, ◌++◌, List, Option, Some, None, Result, Ok, Err}
+-- What was read of a schedule so far, and what a line adds. No public clause cites this module.
+use Rattle.std.specs.Prelude.{◌≡◌, Some, None, Result, Ok, Err}
 use Rattle.cl_types.specs.declared.schedule.What.{What}
 use Rattle.flat_model.specs.Text.{Text, first_word, words_in}
 use Rattle.flat_model.specs.Faults.{first_fault}
@@ -18,6 +18,7 @@ abbrev pub sound : grammar.Reading → Result grammar.Said What → Result gramm
 sound r (Err what) = Err what
 sound r (Ok said) = elim (first_fault (said_faults r said)) [ Some what ↦ Err what | None ↦ Ok said ]
 
+-- what a line says, where nothing is wrong with its bytes, its spaces and its place
 abbrev pub line_said : grammar.Reading → Text → Result grammar.Said What
 line_said r line = elim (first_fault (place_faults r line (first_word (words_in line)))) [
   | Some what ↦ Err what

@@ -1,4 +1,4 @@
--- What a call tells of a line, where want of memory may come instead.
+-- What a call tells of a line, where want of memory may come instead. No public clause cites this module.
 use Rattle.std.specs.Prelude.{◌≡◌, Result, Ok, Err}
 use Rattle.cl_types.specs.declared.schedule.What.{What}
 use Rattle.flat_model.specs.Words.{Value}
@@ -14,10 +14,6 @@ abbrev pub TellsBy : {X Y : Type 0} → (X → Y) → Result X Stop → Result Y
 TellsBy f (Ok x) given = given ≡ Ok (f x)
 TellsBy f (Err (Bad what)) given = given ≡ Err what
 TellsBy f (Err NoMemory) given = Unit {0}
-
--- the same of an argument
-abbrev pub TellsValue : {X : Type 0} → (X → Value) → Result X Stop → Result Value What → Type 0
-TellsValue make result given = TellsBy make result given
 
 -- the same of what stands for itself
 abbrev pub Tells : {X : Type 0} → Result X Stop → Result X What → Type 0

@@ -1,4 +1,4 @@
-//! A schedule.
+//! A schedule, line by line.
 
 ghost use Rattle.std.specs.Prelude.{◌≡◌};
 ghost use Rattle.flat_model.specs.Grammar.{schedule_of};
@@ -10,7 +10,8 @@ use crate::reading::Reading;
 use cl_types::schedule::Schedule;
 use std::alloc::Global;
 
-/// Reads a schedule.
+/// Reads the schedule that the bytes spell, or tells their first bad line. That the bytes or their
+/// lines are too many is told before any line.
 pub fn read(alloc: Global, bytes: &[u8]) -> Result<Schedule, ScheduleFault>
     ensures { Reads bytes.now (schedule_of bytes.now) result }
 {

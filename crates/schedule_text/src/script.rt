@@ -1,4 +1,4 @@
-//! A client's script.
+//! A client's script, line by line.
 
 ghost use Rattle.std.specs.Prelude.{◌≡◌};
 ghost use Rattle.flat_model.specs.Grammar.{script_line, script_of};
@@ -44,7 +44,8 @@ fn read_line(
     }
 }
 
-/// Reads a script.
+/// Reads the script that the bytes spell, or tells their first bad line. That the bytes or their
+/// lines are too many is told before any line.
 #[tactic(auto, using(crate::proofs::ScriptLemmas::read_on, crate::proofs::ScriptLemmas::read_stop, crate::proofs::ScriptLemmas::read_end))]
 pub fn read_script(alloc: Global, bytes: &[u8]) -> Result<Script, ScheduleFault>
     ensures { Reads bytes.now (script_of bytes.now) (calls_of result) }

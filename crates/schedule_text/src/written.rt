@@ -5,7 +5,7 @@ ghost use Rattle.std.specs.List.{list_all};
 ghost use Rattle.flat_model.specs.Words.{BytesWord, argument_in, bytes_of_pairs, is_hex_digit, most_written, times_in};
 ghost use Rattle.flat_model.specs.Words.{B};
 ghost use Rattle.schedule_text.specs.Parts.{parts_left};
-ghost use Rattle.schedule_text.specs.Telling.{TellsValue};
+ghost use Rattle.schedule_text.specs.Telling.{TellsBy};
 
 use crate::fault::Stop;
 use crate::numbers::{hex_digit, is_hex, number};
@@ -67,7 +67,7 @@ fn pairs(alloc: Global, digits: &[u8]) -> Result<Bytes, NoMemory>
 
 /// Written bytes.
 pub(crate) fn written(alloc: Global, text: &[u8]) -> Result<Written, Stop>
-    ensures { TellsValue B result (argument_in BytesWord text.now) }
+    ensures { TellsBy B result (argument_in BytesWord text.now) }
 {
     if text == b"-".as_slice() {
         let bytes = Bytes::create(alloc);

@@ -1,6 +1,6 @@
 use Rattle.std.proofs.Common.{◌≡◌, ◌+◌, ◌≤◌, [], length}
 use Rattle.flat_model.specs.Text.{lines_in}
-use Rattle.schedule_text.specs.Script.{with_lines}
+use Rattle.schedule_text.proofs.ScriptLemmas.{with_lines}
 use Rattle.schedule_text.proofs.script.read_script.Given as goal
 
 abbrev pub invariant-loop-rest : goal.invariant-loop-rest
