@@ -45,8 +45,10 @@ impl Gather {
     pub fn create(parts: u32) -> Gather
         requires { parts ≤ 65 }
         ensures size { length result ≡ parts }
-        ensures waiting { (k : Call) → length (cut k) ≡ parts → came result k ≡ replicate parts None }
-        ensures gathered { (k : Call) → first_fault (call_faults k) ≡ None → length (cut k) ≡ parts → Gathers result k }
+        ensures waiting { (k : Call) → length (cut k) ≡ parts
+            → came result k ≡ replicate parts None }
+        ensures gathered { (k : Call) → first_fault (call_faults k) ≡ None → length (cut k) ≡ parts
+            → Gathers result k }
     {
         Gather {
             outcomes: [Outcome::Waiting; MOST_PARTS],
@@ -58,7 +60,8 @@ impl Gather {
     pub fn take(&mut self, call: &mut Call, i: u32, reply: &ReplyRef)
         requires gathered { Gathers self.old call.old }
         requires fits { TakesFor call.old i (reply_of reply.now) }
-        ensures came { came self.new call.new ≡ slice_set (came self.old call.old) i (Some (Replied (reply_of reply.now))) }
+        ensures came { came self.new call.new
+            ≡ slice_set (came self.old call.old) i (Some (Replied (reply_of reply.now))) }
         ensures call { emptied call.new ≡ emptied call.old }
         ensures gathered { Gathers self.new call.new }
     {
@@ -68,17 +71,21 @@ impl Gather {
     /// Takes that part `i` was given up. Both moments are in ticks.
     pub fn give_up(&mut self, i: u32, first_sent: u64, now: u64)
         requires { i < length self.old }
-        ensures came { (k : Call) → came self.new k ≡ slice_set (came self.old k) i (Some (GivenUp first_sent now)) }
+        ensures came { (k : Call)
+            → came self.new k ≡ slice_set (came self.old k) i (Some (GivenUp first_sent now)) }
         ensures gathered { (k : Call) → Gathers self.old k → Gathers self.new k }
     {
         self.outcomes[i as usize] = Outcome::GivenUp { first_sent, now };
     }
 
-    /// The answer, with the call's buffer filled for it. `None` comes exactly where of some part nothing has come yet.
+    /// The answer, with the call's buffer filled for it. `None` comes exactly where of some part
+    /// nothing has come yet.
     pub fn answer(&mut self, call: &mut Call) -> Option<Answer>
         requires { Gathers self.old call.old }
-        ensures answer { result ≡ option_map (combine (emptied call.old)) (every (came self.old call.old)) }
-        ensures filled { IfSome (every (came self.old call.old)) (λ endings. call.new ≡ handed_back (emptied call.old) endings) }
+        ensures answer { result
+            ≡ option_map (combine (emptied call.old)) (every (came self.old call.old)) }
+        ensures filled { IfSome (every (came self.old call.old))
+            (λ endings. call.new ≡ handed_back (emptied call.old) endings) }
         ensures call { IfNone result (call.new ≡ call.old) }
         ensures unchanged { self.new ≡ self.old }
     {

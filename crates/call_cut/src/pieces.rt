@@ -1,5 +1,5 @@
-//! The parts of a call. A Read or a Write is cut into pieces, at the ends of pages and, within a page, every 1,024
-//! bytes.
+//! The parts of a call. A Read or a Write is cut into pieces, at the ends of pages and, within a
+//! page, every 1,024 bytes.
 
 ghost use Rattle.std.specs.Prelude.{◌≡◌, ◌+◌, ◌<◌, ◌≤◌, length, Some, None, slice_get};
 ghost use Rattle.flat_model.specs.Cut.{cut, pieces, piece_len as piece_len_of};

@@ -11,8 +11,8 @@ pub enum Due {
         orig: u64,
         first_sent: u64,
     },
-    /// No part is to be given up. The part was last sent `TIMEOUT` ticks ago or earlier, and its age is at most
-    /// `LAST_RESEND`; it is the first such part.
+    /// No part is to be given up. The part was last sent `TIMEOUT` ticks ago or earlier, and its
+    /// age is at most `LAST_RESEND`; it is the first such part.
     Resend {
         part: Part,
         orig: u64,

@@ -56,7 +56,8 @@ impl Model for Flight {
 }
 
 impl Flight {
-    /// No part in flight, and room for `PARTS_IN_FLIGHT`. `NoMemory` comes where an allocation was refused.
+    /// No part in flight, and room for `PARTS_IN_FLIGHT`. `NoMemory` comes where an allocation was
+    /// refused.
     pub fn create(alloc: Global) -> Result<Flight, NoMemory>
         ensures { IfOk result (λ flight. flight ≡ record { flown = []; last = 0 }) }
     {
@@ -78,7 +79,8 @@ impl Flight {
         requires part { has_part part self.old.flown ≡ false }
         requires id { has_orig id self.old.flown ≡ false }
         requires moment { self.old.last ≤ now }
-        ensures flown { self.new.flown ≡ with_flown (record { part = part; orig = id; first = now; last = now }) self.old.flown }
+        ensures flown { self.new.flown ≡ with_flown
+            (record { part = part; orig = id; first = now; last = now }) self.old.flown }
         ensures last { self.new.last ≡ now }
     {
         let Some(place) = self.places.pop_front(FREE) else {
@@ -154,10 +156,11 @@ impl Flight {
         Some(self.slots.part(place).part)
     }
 
-    /// Takes that a reply was heard: the part of this orig, which is no longer in flight. `None` comes exactly where
-    /// there is none.
+    /// Takes that a reply was heard: the part of this orig, which is no longer in flight. `None`
+    /// comes exactly where there is none.
     pub fn hear(&mut self, orig: u64) -> Option<Part>
-        ensures part { result ≡ option_map (λ f. f.part) (find (λ f. f.orig == orig) self.old.flown) }
+        ensures part { result
+            ≡ option_map (λ f. f.part) (find (λ f. f.orig == orig) self.old.flown) }
         ensures flown { self.new.flown ≡ without orig self.old.flown }
         ensures last { self.new.last ≡ self.old.last }
     {
@@ -192,14 +195,16 @@ fn place_of(chains: &Lists, slots: &Slots, orig: u64) -> Option<u32>
     requires count { length chains.now.lists ≡ 64 }
     requires few { chains.now.nodes ≤ 64 }
     requires filled { (l p : ℕ) → IsIn chains.now l p → IsSome (slot_at slots.now p) }
-    ensures { let chain = list_at chains.now (chain_of_orig orig) in result ≡ slice_get chain (position_or_len (wanted_at slots.now (Orig orig)) chain) }
+    ensures { let chain = list_at chains.now (chain_of_orig orig) in
+        result ≡ slice_get chain (position_or_len (wanted_at slots.now (Orig orig)) chain) }
 {
     walk(chains, chain_of(orig), slots, Wanted::Orig(orig)).here
 }
 
 /// Lists of places, all of them in the list `FREE`.
 fn all_free(alloc: Global) -> Result<Lists, NoMemory>
-    ensures free { IfOk result (λ places. places ≡ record { nodes = 64; lists = [] ∷ range_with_len 0 64 ∷ [] }) }
+    ensures free { IfOk result
+        (λ places. places ≡ record { nodes = 64; lists = [] ∷ range_with_len 0 64 ∷ [] }) }
     ensures valid { IfOk result IsValid }
 {
     let Ok(mut places) = Lists::create(alloc, PLACES as u32, 2) else {
@@ -211,7 +216,8 @@ fn all_free(alloc: Global) -> Result<Lists, NoMemory>
     Ok(places)
 }
 
-/// Puts a place that is in no list into the list `FLYING`, where the part comes by its call and part.
+/// Puts a place that is in no list into the list `FLYING`, where the part comes by its call and
+/// part.
 fn put_in_order(places: &mut Lists, slots: &Slots, place: u32, part: Part)
     requires two { length places.old.lists ≡ 2 }
     requires few { places.old.nodes ≡ 64 }
@@ -219,7 +225,8 @@ fn put_in_order(places: &mut Lists, slots: &Slots, place: u32, part: Part)
     requires within { place < 64 }
     requires free { IsFree places.old place }
     requires filled { (p : ℕ) → IsIn places.old 0 p → IsSome (slot_at slots.now p) }
-    ensures places { places.new ≡ with_list places.old 0 (insert (list_at places.old 0) (position_or_len (wanted_at slots.now (Behind part)) (list_at places.old 0)) place) }
+    ensures places { let flying = list_at places.old 0 in places.new ≡ with_list places.old 0
+        (insert flying (position_or_len (wanted_at slots.now (Behind part)) flying) place) }
     ensures valid { IsValid places.new }
 {
     match walk(places, FLYING, slots, Wanted::Behind(part)).before {

@@ -26,7 +26,8 @@ pub enum Wanted {
     Behind(Part),
 }
 
-/// Where a walk came to: the place of the wanted part, none at the end of the list, and the place before that.
+/// Where a walk came to: the place of the wanted part, none at the end of the list, and the place
+/// before that.
 #[derive(Clone, Copy)]
 pub struct Spot {
     pub before: Option<u32>,
@@ -38,8 +39,10 @@ pub fn walk(places: &Lists, list: u32, slots: &Slots, wanted: Wanted) -> Spot
     requires within { list < length places.now.lists }
     requires few { places.now.nodes ≤ 64 }
     requires filled { (p : ℕ) → IsIn places.now list p → IsSome (slot_at slots.now p) }
-    ensures here { result.here ≡ slice_get (list_at places.now list) (position_or_len (wanted_at slots.now wanted) (list_at places.now list)) }
-    ensures before { result.before ≡ back (list_at places.now list) (position_or_len (wanted_at slots.now wanted) (list_at places.now list)) }
+    ensures here { let along = list_at places.now list in
+        result.here ≡ slice_get along (position_or_len (wanted_at slots.now wanted) along) }
+    ensures before { let along = list_at places.now list in
+        result.before ≡ back along (position_or_len (wanted_at slots.now wanted) along) }
 {
     let mut before = None;
     let mut place = places.first(list);

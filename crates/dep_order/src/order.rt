@@ -7,6 +7,7 @@ ghost use Rattle.flat_model.specs.Issue.{call_faults};
 ghost use Rattle.flat_model.specs.Order.{footprint, may_go, ready_in};
 ghost use Rattle.dep_order.specs.Calls.{number_of};
 ghost use Rattle.dep_order.specs.Rows.{row_goes};
+ghost use Rattle.dep_order.specs.declared.row.Row.{Row};
 
 use crate::row::{Row, row_of, waits};
 use cl_types::call::Call;
@@ -81,10 +82,11 @@ impl Order {
         self.first_ready_of(CallNo(0))
     }
 
-    /// The first call that may go, in order of issue, of those from this number on. `None` comes exactly where none
-    /// of these may.
+    /// The first call that may go, in order of issue, of those from this number on. `None` comes
+    /// exactly where none of these may.
     pub fn first_ready_of(&self, from: CallNo) -> Option<CallNo>
-        ensures { result ≡ option_map number_of (find (λ k. leb from.0 k.0 && may_go self.now k) self.now) }
+        ensures { result
+            ≡ option_map number_of (find (λ k. leb from.0 k.0 && may_go self.now k) self.now) }
     {
         first_that_goes(&self.rows, from)
     }
@@ -99,7 +101,8 @@ fn is_there_and_goes(rows: &[Row], no: CallNo) -> bool
 
 /// The first of these, from this number on, that waits for none of them.
 fn first_that_goes(rows: &[Row], from: CallNo) -> Option<CallNo>
-    ensures { result ≡ option_map (λ row. row.no) (find (λ row. leb from.0 row.no.0 && row_goes rows.now row) rows.now) }
+    ensures { let goes_from = λ (row : Row). leb from.0 row.no.0 && row_goes rows.now row in
+        result ≡ option_map (λ row. row.no) (find goes_from rows.now) }
 {
     rows.iter()
         .find(|row| from.0 <= row.no.0 && goes(rows, row))

@@ -22,7 +22,8 @@ pub struct Row {
     pub offload: Option<(u8, bool)>,
 }
 
-/// The pages from `from` to before `end`, both page numbers of one space; none where `end` is no greater.
+/// The pages from `from` to before `end`, both page numbers of one space; none where `end` is no
+/// greater.
 #[derive(Clone, Copy)]
 pub struct Pages {
     pub from: u32,
@@ -67,7 +68,8 @@ pub fn row_of(no: CallNo, call: &Call) -> Row
 
 /// A call that uses these pages, and no offload.
 fn touching(no: CallNo, pages: Pages, reads: bool) -> Row
-    ensures { print_of result ≡ (no.0, record { pages = pages_of pages; reads = reads; fence = false; offload = None }) }
+    ensures { print_of result
+        ≡ (no.0, record { pages = pages_of pages; reads = reads; fence = false; offload = None }) }
 {
     Row {
         no,

@@ -1,12 +1,13 @@
-//! The lossy link of a replay: every frame that was sent, so that any of them may be delivered at any time, again and
-//! again, or never.
+//! The lossy link of a replay: every frame that was sent, so that any of them may be delivered at
+//! any time, again and again, or never.
 //!
-//! A contract sees a `Link` as the frames that were sent, each with its moment, the end that it goes to, its bytes and
-//! its line, and as the number of frames that were handed out in order. Frames are numbered from 1 in the order in
-//! which they were sent. Only `create` and `send` take memory.
+//! A contract sees a `Link` as the frames that were sent, each with its moment, the end that it
+//! goes to, its bytes and its line, and as the number of frames that were handed out in order.
+//! Frames are numbered from 1 in the order in which they were sent. Only `create` and `send` take
+//! memory.
 //!
-//! A frame is live for fewer than `LIFE` ticks, and stays in the link after that. Which frames are delivered, and what
-//! their bytes spell, is left to others.
+//! A frame is live for fewer than `LIFE` ticks, and stays in the link after that. Which frames are
+//! delivered, and what their bytes spell, is left to others.
 #![tactic(auto)]
 
 ghost use Rattle.std.specs.Prelude.{◌≡◌, ◌+◌, ◌<◌, [], ◌∷◌, ◌++◌, length, IfOk, OnErr, OnOk};
@@ -22,7 +23,8 @@ use std::marker::Model;
 /// What stands under the number of a frame at a moment.
 #[derive(Clone, Copy, Debug, PartialEq, Eq)]
 pub enum Got<'a> {
-    /// The frame was sent fewer than `LIFE` ticks ago: its bytes, where it goes, and the line on which it was sent.
+    /// The frame was sent fewer than `LIFE` ticks ago: its bytes, where it goes, and the line on
+    /// which it was sent.
     Live {
         bytes: &'a [u8],
         end: End,
@@ -79,12 +81,13 @@ impl Link {
         })
     }
 
-    /// Sends the bytes to an end at the moment `now`, in ticks, on a line, and gives the number of the frame. Where
-    /// there is no memory for it, nothing is sent.
+    /// Sends the bytes to an end at the moment `now`, in ticks, on a line, and gives the number of
+    /// the frame. Where there is no memory for it, nothing is sent.
     pub fn send(&mut self, now: u64, end: End, bytes: &[u8], line: u32) -> Result<u32, NoMemory>
         requires { length self.old.frames < 4294967295 }
         ensures number { IfOk result (λ number. number ≡ length self.old.frames + 1) }
-        ensures sent { OnOk result (self.new ≡ sent_on self.old (record { moment = now; end = end; bytes = bytes.now; line = line })) }
+        ensures sent { OnOk result (self.new ≡ sent_on self.old
+            (record { moment = now; end = end; bytes = bytes.now; line = line })) }
         ensures unchanged { OnErr result (self.new ≡ self.old) }
     {
         let from = self.bytes.len();
@@ -121,8 +124,8 @@ impl Link {
         }
     }
 
-    /// Hands out the least number that it has not handed out before. `None` comes exactly where every frame that was
-    /// sent is handed out.
+    /// Hands out the least number that it has not handed out before. `None` comes exactly where
+    /// every frame that was sent is handed out.
     pub fn next(&mut self) -> Option<u32>
         ensures number { result ≡ next_number self.old }
         ensures handed { self.new ≡ next_handed self.old }
