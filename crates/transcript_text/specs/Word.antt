@@ -1,4 +1,4 @@
--- What a word of a line prints.
+-- What a word of a line prints. No public clause cites this module.
 use Rattle.std.specs.Prelude.{decimal}
 use Rattle.hex.specs.Hex.{encode_lower}
 use Rattle.transcript_text.specs.declared.word.Word.{Word}
