@@ -32,7 +32,7 @@ valid-turn kept r valid some later apart =
       apart = AreApart-tail kept.records valid.apart;
     } in
     valid-push (record kept { records = drop 1 kept.records }) r fewer (omega (arith, length-drop 1 kept.records, valid.few))
-      (AreNotedBy-tail r.moment kept.records later) (none_found-tail (name_of r) kept.records apart)
+    (AreNotedBy-tail r.moment kept.records later) (none_found-tail (name_of r) kept.records apart)
 
 module _ {slots : List Noted} {oldest capacity space : ℕ} {chains : NodeLists} (s : IsSound slots oldest capacity space chains) where
   -- ---- at the first place that isn't filled
@@ -52,7 +52,7 @@ module _ {slots : List Noted} {oldest capacity space : ℕ} {chains : NodeLists}
         turns = λ h. first;
         chained = chained-push s.chained r l chains' is below (rw there at new) valid;
         valid = subst (λ (rs : List Noted). IsValid (record { capacity = capacity; records = rs })) pushed
-          (valid-push (kept_in capacity oldest slots) r s.valid few later apart);
+            (valid-push (kept_in capacity oldest slots) r s.valid few later apart);
       })
 
   -- ---- at the place of the oldest
@@ -90,5 +90,5 @@ module _ {slots : List Noted} {oldest capacity space : ℕ} {chains : NodeLists}
         turns = λ h. absurd (omega (arith, length-set slots oldest r, filled));
         chained = chained-set s.chained oldest oldest_there.0 oldest_there.1 r l chains' is below (rw removed_is at new) valid;
         valid = subst (λ (rs : List Noted). IsValid (record { capacity = capacity; records = rs })) (sym (turned_is r))
-          (valid-turn (kept_in capacity oldest slots) r s.valid s.some later apart);
+            (valid-turn (kept_in capacity oldest slots) r s.valid s.some later apart);
       }

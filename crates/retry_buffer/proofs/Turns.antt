@@ -33,7 +33,7 @@ in_turn-set slots oldest r within = elim (cases_Bool (eqb (oldest + 1) (length s
       rw (last, drop_more slots oldest r within, drop_all (oldest + 1) slots (omega arith)) (append-nil (set slots oldest r) ∙ front)
   | inr other ↦
       rw (other, drop_more slots oldest r within, drop-set-lt (oldest + 1) slots oldest r (omega arith), take_more_set slots oldest r within)
-        (sym (append_assoc (drop (oldest + 1) slots) (take oldest slots) (r ∷ [])))
+      (sym (append_assoc (drop (oldest + 1) slots) (take oldest slots) (r ∷ [])))
 ]
 
 -- there are as many as at the places

@@ -4,7 +4,7 @@ ghost use Rattle.std.specs.Prelude.{◌≡◌, ◌+◌, ◌<◌, ◌≤◌, ◌�
 ghost use Rattle.flat_model.specs.Handling.{RefusesForNow, on_oldest};
 ghost use Rattle.retry_buffer.specs.Kept.{IsValid, HasRoom, AreNotedBy, name_of, noted_as, oldest_moment, with_noted};
 
-use crate::chain::{chain_of, NEIGHBOURS};
+use crate::chain::{NEIGHBOURS, chain_of};
 use crate::noted::Noted;
 use cl_types::call::Kind;
 use cl_types::items::NoMemory;
@@ -125,10 +125,10 @@ impl Retry {
             orig,
             reply,
         };
-        if self.slots.len() < self.capacity as usize {
-            self.append(noted);
-        } else {
+        if self.slots.len() == self.capacity as usize {
             self.replace_oldest(noted);
+        } else {
+            self.append(noted);
         }
     }
 
@@ -150,7 +150,8 @@ impl Retry {
         ensures valid { IsValid self.new }
     {
         let chain = chain_of(noted.client, noted.kind, noted.orig, self.capacity);
-        self.chains.push_front(chain, self.slots.len() as u32);
+        let unfilled = self.slots.len();
+        self.chains.push_front(chain, unfilled as u32);
         if self.slots.push(noted).is_err() {
             unreachable!()
         }

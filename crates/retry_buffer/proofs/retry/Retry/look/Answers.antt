@@ -21,7 +21,7 @@ loop-at-preserved c =
     let stands = rw c.in-Some.is at c.loop-at.invariant in
     let here = read_there c.self.invariant.chained c.chain_of-chain.result c.in-Some.place _ stands c.index-noted.ensures in
     rw (c.next-at.ensures.next c.chain_of-chain.result stands.within)
-      (passed-after c.in-Some.place _ stands (c.next-at.ensures.valid.distinct c.chain_of-chain.result) here (sym c.is_of.ensures ∙ c.if-is_of.false))
+    (passed-after c.in-Some.place _ stands (c.next-at.ensures.valid.distinct c.chain_of-chain.result) here (sym c.is_of.ensures ∙ c.if-is_of.false))
 
 pub returns : goal.returns
 returns c = rw (← c.self.view_is, nothing_found c.self.invariant _ c.chain_of-chain.result c.chain_of-chain.ensures.chain (rw c.in_default.is at c.loop-at.invariant)) refl
