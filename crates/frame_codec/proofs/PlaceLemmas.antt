@@ -5,6 +5,10 @@ use Rattle.std.proofs.lemmas.List.{drop-drop, take_at, drop_at}
 use Rattle.cl_types.specs.Bytes.{with_bytes}
 use borrow.Rule.Slice.PartMut.{put_mid}
 
+-- what stands behind a header: a body's reader is handed it, and a body's writer writes over it
+abbrev pub behind_header : List ℕ → List ℕ
+behind_header bytes = take (length bytes - 26) (drop 26 bytes)
+
 -- bytes that are written at the start of what is from a place on
 pub put_mid-with_bytes : (at : ℕ) (bytes old part : List ℕ) → at + length bytes ≤ length old
     → part ≡ bytes ++ drop (length bytes) (take (length old - at) (drop at old))

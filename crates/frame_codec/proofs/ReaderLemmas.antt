@@ -1,5 +1,5 @@
 -- From the parts that a reader has judged to the whole frame.
-use Rattle.std.proofs.Common.{◌≡◌, ℕ, ◌+◌, ◌-◌, ◌<◌, suc, List, [], ◌∷◌, ◌++◌, length, take, drop, get_or, Option, Some, None, Result, Ok, Err, refl, sym, subst, inl, inr, zero-add, arith}
+use Rattle.std.proofs.Common.{◌≡◌, ℕ, ◌+◌, ◌<◌, suc, List, [], ◌∷◌, ◌++◌, length, drop, get_or, Option, Some, None, Result, Ok, Err, refl, sym, subst, inl, inr, zero-add, arith}
 use Rattle.std.specs.Prelude.{IfOk, IsTrue, slice_index}
 use Rattle.std.specs.Result.{result_err}
 use Rattle.std.proofs.lemmas.Bool.{cases_Bool, and_from}
@@ -27,6 +27,7 @@ use Rattle.frame_codec.specs.Reading.{GivesSpelledRequest, GivesSpelledReply}
 use Rattle.frame_codec.specs.declared.headers.Header.{Header}
 use Rattle.frame_codec.specs.declared.views.RequestView.{RequestView}
 use Rattle.frame_codec.specs.declared.views.ReplyView.{ReplyView}
+use Rattle.frame_codec.proofs.PlaceLemmas.{behind_header}
 
 -- the numbers are those of bytes
 abbrev pub AreSmall : List ℕ → Type 0
@@ -57,12 +58,8 @@ first_fault-behind (check ∷ checks) more none = elim (cases_Bool check.0) [
 ]
 
 -- ---- a frame of either kind
--- what the reader of a body is handed
-abbrev pub behind : List ℕ → List ℕ
-behind bytes = take (length bytes - 26) (drop 26 bytes)
-
-behind_is : (bytes : List ℕ) → behind bytes ≡ drop 26 bytes
-behind_is bytes = between_to_end bytes 26 (length bytes) (omega arith)
+behind_header_is : (bytes : List ℕ) → behind_header bytes ≡ drop 26 bytes
+behind_header_is bytes = between_to_end bytes 26 (length bytes) (omega arith)
 
 -- the checks of a body, by its kind's number and its length
 abbrev BodyChecks : Type 0
@@ -87,9 +84,9 @@ fault-header base body_checks bytes fault told =
 -- behind a good header the fault of the frame is that of its body
 fault-body : (base : ℕ) (body_checks : BodyChecks) (bytes : List ℕ) (header : Header) (number : ℕ)
     → IsHeaderOf base bytes header → number ≡ base + kind_number header.kind
-    → first_fault (body_checks number (length (behind bytes)) (behind bytes)) ≡ fault_above base body_checks bytes
+    → first_fault (body_checks number (length (behind_header bytes)) (behind_header bytes)) ≡ fault_above base body_checks bytes
 fault-body base body_checks bytes header number good same =
-    let is = behind_is bytes in
+    let is = behind_header_is bytes in
     let long : length (drop 26 bytes) ≡ body_len bytes = omega (arith, good.whole, length-drop 26 bytes) in
     let passed_on = first_fault-behind (header_above base bytes) (told_body body_checks bytes) good.faultless in
     rw (same, is, long, ← good.kind) (sym passed_on)
@@ -100,15 +97,15 @@ pub request_fault-header : (bytes : List ℕ) (fault : BadFrame) → Some fault 
 request_fault-header bytes fault told = fault-header 0 request_checks bytes fault told
 
 pub request_fault-body : {bytes : List ℕ} {header : Header} → IsHeaderOf 0 bytes header
-    → first_fault (request_checks (kind_number header.kind) (length (behind bytes)) (behind bytes)) ≡ request_fault bytes
+    → first_fault (request_checks (kind_number header.kind) (length (behind_header bytes)) (behind_header bytes)) ≡ request_fault bytes
 request_fault-body {bytes = bytes} {header = header} good = fault-body 0 request_checks bytes header _ good (sym (zero-add _))
 
 -- a good header and a good body are read
 pub request_read : {bytes : List ℕ} {header : Header} (body : Request) → IsHeaderOf 0 bytes header → None ≡ request_fault bytes
-    → body ≡ request_in_body (kind_number header.kind) (behind bytes) → ReadsAsRequest bytes header.head body
+    → body ≡ request_in_body (kind_number header.kind) (behind_header bytes) → ReadsAsRequest bytes header.head body
 request_read {bytes = bytes} {header = header} body good none body_is =
     let kind : slice_index bytes 3 ≡ kind_number header.kind = omega (arith, good.kind) in
-    record { faultless = sym none; same_head = sym good.head; same_body = rw (body_is, behind_is bytes, kind) refl }
+    record { faultless = sym none; same_head = sym good.head; same_body = rw (body_is, behind_header_is bytes, kind) refl }
 
 -- and what is read is spelled
 pub request_spelled : {bytes : List ℕ} {head : Head} {body : Request} → AreSmall bytes → ReadsAsRequest bytes head body
@@ -133,17 +130,17 @@ pub reply_fault-header : (bytes : List ℕ) (fault : BadFrame) → Some fault �
 reply_fault-header bytes fault told = fault-header 128 reply_checks bytes fault told
 
 pub reply_fault-body : {bytes : List ℕ} {header : Header} → IsHeaderOf 128 bytes header
-    → first_fault (reply_checks (128 + kind_number header.kind) (length (behind bytes)) (behind bytes)) ≡ reply_fault bytes
+    → first_fault (reply_checks (128 + kind_number header.kind) (length (behind_header bytes)) (behind_header bytes)) ≡ reply_fault bytes
 reply_fault-body {bytes = bytes} {header = header} good = fault-body 128 reply_checks bytes header _ good refl
 
 -- a good header and a good body are read
 pub reply_read : {bytes : List ℕ} {header : Header} (body : Reply) → IsHeaderOf 128 bytes header → None ≡ reply_fault bytes
-    → body ≡ reply_in_body (128 + kind_number header.kind) (behind bytes) → ReadsAsReply bytes header.head header.kind body
+    → body ≡ reply_in_body (128 + kind_number header.kind) (behind_header bytes) → ReadsAsReply bytes header.head header.kind body
 reply_read {bytes = bytes} body good none body_is = record {
   faultless = sym none;
   same_head = sym good.head;
   same_kind = good.kind;
-  same_body = rw (body_is, behind_is bytes, good.kind) refl;
+  same_body = rw (body_is, behind_header_is bytes, good.kind) refl;
 }
 
 -- and what is read is spelled

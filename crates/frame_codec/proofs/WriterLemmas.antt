@@ -14,7 +14,7 @@ use Rattle.flat_model.proofs.ReplyFrameLemmas.{replies_are_read_again}
 use Rattle.frame_codec.specs.Laws.{WrittenRequestsAreReadAgain, WrittenRepliesAreReadAgain}
 use Rattle.frame_codec.specs.Parts.{header_of}
 use Rattle.frame_codec.specs.Writing.{IsWritten, may_carry}
-use Rattle.frame_codec.proofs.PlaceLemmas.{put_mid-with_bytes}
+use Rattle.frame_codec.proofs.PlaceLemmas.{behind_header, put_mid-with_bytes}
 use borrow.Rule.Slice.PartMut.{put_mid}
 
 -- the header of a frame, its body, and behind them what stood there
@@ -41,19 +41,15 @@ drop-with_bytes at bytes old within =
     ap (drop at) (append_assoc (take at old) bytes (drop (at + length bytes) old))
     ∙ drop_at (take at old) (bytes ++ drop (at + length bytes) old) at (simp length-take (omega arith))
 
--- where a frame's body is written
-abbrev pub place : List ℕ → List ℕ
-place old = take (length old - 26) (drop 26 old)
-
 -- what was written at its place is no longer than that
 fits : (n : ℕ) (body old part : List ℕ) → n ≡ length body → 26 ≤ length old
-    → length part ≡ length (place old) → part ≡ body ++ drop n (place old) → 26 + n ≤ length old
+    → length part ≡ length (behind_header old) → part ≡ body ++ drop n (behind_header old) → 26 + n ≤ length old
 fits n body old part long room kept is =
-    let split : length part ≡ length body + length (drop n (place old)) = rw is (length-append body (drop n (place old))) in
+    let split : length part ≡ length body + length (drop n (behind_header old)) = rw is (length-append body (drop n (behind_header old))) in
     omega (arith, length-take (length old - 26) (drop 26 old), length-drop 26 old)
 
 pub frame_written : (number : ℕ) (head : Head) (n : ℕ) (body old part now : List ℕ) → n ≡ length body → 26 ≤ length old
-    → length part ≡ length (place old) → part ≡ body ++ drop n (place old)
+    → length part ≡ length (behind_header old) → part ≡ body ++ drop n (behind_header old)
     → now ≡ header_of number head n ++ drop 26 (put_mid 26 (length old - 26) old part)
     → IsWritten (frame_of number head body) (26 + n) old now
 frame_written number head n body old part now long room kept part_is now_is =

@@ -10,7 +10,7 @@ use Rattle.flat_model.specs.Frames.{IsHead, is_reply_of, request_frame, reply_fr
 use Rattle.flat_model.specs.FrameLaws.{ReadsAsRequest, ReadsAsReply}
 use Rattle.frame_codec.specs.Writing.{IsWritten}
 
--- bytes are those of the number that is read in them
+-- bytes are those that `byteorder` writes for the number that it reads in them, the highest first
 abbrev pub BytesAreThoseOfTheirNumber : Type 0
 BytesAreThoseOfTheirNumber =
     (bytes : List ℕ)

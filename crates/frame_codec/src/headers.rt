@@ -15,6 +15,15 @@ use cl_types::numbers::{ClientNo, try_pid};
 /// How many bytes stand in front of a body.
 pub const HEADER_BYTES: usize = 26;
 
+/// The first two bytes of a frame.
+const MAGIC: [u8; 2] = [0x43, 0x4c];
+
+/// The version of the format.
+const VERSION: u8 = 1;
+
+/// What a reply's number of its kind is above its request's.
+pub const REPLY: u8 = 128;
+
 /// The header of a frame that has as many bytes as it tells.
 #[derive(Clone, Copy)]
 pub struct Header {
@@ -64,10 +73,12 @@ fn read_head(bytes: &[u8]) -> Result<Head, BadFrame>
     })
 }
 
-/// Reads a header, of a frame with a number of its kind from `base + 1` to `base + 6`.
+/// Reads a header, of a frame with a number of its kind from `base + 1` to `base + 6`. `base` is 0
+/// for a request and 128 for a reply.
 pub fn read_header(base: u8, bytes: &[u8]) -> Result<Header, BadFrame>
     requires { base ≤ 128 }
-    ensures fault { result_err result ≡ first_fault (header_checks (is_within (base + 1) (base + 6)) bytes.now) }
+    ensures fault { let is_kind = is_within (base + 1) (base + 6) in
+        result_err result ≡ first_fault (header_checks is_kind bytes.now) }
     ensures read { IfOk result (λ header. IsHeaderOf base bytes.now header) }
 {
     let have = bytes.len();
@@ -77,10 +88,10 @@ pub fn read_header(base: u8, bytes: &[u8]) -> Result<Header, BadFrame>
             need: HEADER_BYTES,
         });
     }
-    if bytes[0] != 0x43 || bytes[1] != 0x4c {
+    if bytes[0] != MAGIC[0] || bytes[1] != MAGIC[1] {
         return Err(BadFrame::Magic);
     }
-    if bytes[2] != 1 {
+    if bytes[2] != VERSION {
         return Err(BadFrame::Version(bytes[2]));
     }
     let Some(kind) = try_kind(bytes[3].wrapping_sub(base)) else {
@@ -98,7 +109,7 @@ pub fn read_header(base: u8, bytes: &[u8]) -> Result<Header, BadFrame>
 }
 
 /// The number of the kind in a request's frame.
-pub fn number_of(kind: Kind) -> u8
+pub fn kind_number(kind: Kind) -> u8
     ensures { result ≡ kind_number kind }
 {
     match kind {
@@ -116,7 +127,7 @@ pub fn write_header(number: u8, head: &Head, len: u16, out: &mut [u8])
     requires { 26 ≤ length out.old }
     ensures { out.new ≡ header_of number head.now len ++ drop 26 out.old }
 {
-    out[..4].copy_from_slice(&[0x43, 0x4c, 1, number]);
+    out[..4].copy_from_slice(&[MAGIC[0], MAGIC[1], VERSION, number]);
     put_u16(out, 4, head.client.0);
     put_u16(out, 6, head.pid.number());
     put_u64(out, 8, head.id);

@@ -2,7 +2,7 @@
 
 ghost use Rattle.frame_codec.specs.Laws.{BytesAreThoseOfTheirNumber, WrittenRepliesAreReadAgain, WrittenRequestsAreReadAgain};
 
-/// Bytes are those of the number that is read in them.
+/// Bytes are those that `byteorder` writes for the number that it reads in them, the highest first.
 pub fn bytes_are_those_of_their_number()
     ensures { BytesAreThoseOfTheirNumber }
 {}

@@ -4,11 +4,11 @@
 //! `write_reply` and `write_got` spell a value at the start of a buffer. No call takes memory.
 //!
 //! A contract sees bytes as a list, and the view of a frame as its head and the request or reply
-//! that it borrows (`request_of`, `reply_of`). Which bytes spell which value, and which fault is
-//! told of others, stands in `flat_model`.
+//! that it borrows (`request_of`, `reply_of`); the view of a reply has its kind too. Which bytes
+//! spell which value, and which fault is told of others, stands in `flat_model`.
 //!
-//! That a call takes one pass, and that no byte is copied but those of a payload that is written,
-//! can be seen in the code, and no clause says it.
+//! That a call reads each field once, and that no byte is copied but those of a payload that is
+//! written, can be seen in the code, and no clause says it.
 #![tactic(auto)]
 
 mod headers;

@@ -10,7 +10,7 @@ ghost use Rattle.flat_model.specs.FrameLaws.{ReadsAsReply};
 ghost use Rattle.flat_model.specs.Frames.{SpellsReply, field, kind_number, number_64, ok_checks, refusal_in, reply_checks, reply_fault, reply_in_body};
 ghost use Rattle.frame_codec.specs.Reading.{GivesSpelledReply};
 
-use crate::headers::{HEADER_BYTES, read_header};
+use crate::headers::{HEADER_BYTES, REPLY, read_header};
 use crate::places::{u32_at, u64_at};
 use crate::views::ReplyView;
 use cl_types::call::Kind;
@@ -55,7 +55,8 @@ fn read_start(body: &[u8]) -> Result<ReplyRef<'_>, BadFrame>
 
 /// Reads the nothing that answers a Free or a Write.
 fn read_nothing(body: &[u8]) -> Result<ReplyRef<'_>, BadFrame>
-    ensures fault { result_err result ≡ first_fault (field (length body.now == 1) FieldName.Body ∷ []) }
+    ensures fault { let good = length body.now == 1 in
+        result_err result ≡ first_fault (field good FieldName.Body ∷ []) }
     ensures value { IfOk result (λ reply. reply_of reply ≡ owned.Nothing) }
 {
     if body.len() != 1 {
@@ -79,7 +80,8 @@ fn read_got(least: usize, body: &[u8]) -> Result<ReplyRef<'_>, BadFrame>
 
 /// Reads the word that answers an Atomic.
 fn read_word(body: &[u8]) -> Result<ReplyRef<'_>, BadFrame>
-    ensures fault { result_err result ≡ first_fault (field (length body.now == 9) FieldName.Body ∷ []) }
+    ensures fault { let good = length body.now == 9 in
+        result_err result ≡ first_fault (field good FieldName.Body ∷ []) }
     ensures value { IfOk result (λ reply. reply_of reply ≡ owned.Word (number_64 1 body.now)) }
 {
     if body.len() != 9 {
@@ -89,10 +91,12 @@ fn read_word(body: &[u8]) -> Result<ReplyRef<'_>, BadFrame>
 }
 
 /// Reads the body of a reply of this kind, behind a status of 0.
-fn read_done(kind: Kind, body: &[u8]) -> Result<ReplyRef<'_>, BadFrame>
+fn read_ok(kind: Kind, body: &[u8]) -> Result<ReplyRef<'_>, BadFrame>
     requires { slice_index body.now 0 ≡ 0 }
-    ensures fault { result_err result ≡ first_fault (ok_checks (128 + kind_number kind) (length body.now) body.now) }
-    ensures value { IfOk result (λ reply. reply_of reply ≡ reply_in_body (128 + kind_number kind) body.now) }
+    ensures fault { let number = 128 + kind_number kind in
+        result_err result ≡ first_fault (ok_checks number (length body.now) body.now) }
+    ensures value { let number = 128 + kind_number kind in
+        IfOk result (λ reply. reply_of reply ≡ reply_in_body number body.now) }
 {
     match kind {
         Kind::Alloc => read_start(body),
@@ -105,14 +109,16 @@ fn read_done(kind: Kind, body: &[u8]) -> Result<ReplyRef<'_>, BadFrame>
 
 /// Reads the body of a reply of this kind.
 fn read_body(kind: Kind, body: &[u8]) -> Result<ReplyRef<'_>, BadFrame>
-    ensures fault { result_err result ≡ first_fault (reply_checks (128 + kind_number kind) (length body.now) body.now) }
-    ensures value { IfOk result (λ reply. reply_of reply ≡ reply_in_body (128 + kind_number kind) body.now) }
+    ensures fault { let number = 128 + kind_number kind in
+        result_err result ≡ first_fault (reply_checks number (length body.now) body.now) }
+    ensures value { let number = 128 + kind_number kind in
+        IfOk result (λ reply. reply_of reply ≡ reply_in_body number body.now) }
 {
     if body.is_empty() {
         return Err(BadFrame::Field(FieldName::Body));
     }
     if body[0] == 0 {
-        return read_done(kind, body);
+        return read_ok(kind, body);
     }
     let Some(refusal) = try_refusal(body[0]) else {
         return Err(BadFrame::Field(FieldName::Status));
@@ -127,11 +133,13 @@ fn read_body(kind: Kind, body: &[u8]) -> Result<ReplyRef<'_>, BadFrame>
 /// bytes is told.
 pub fn read_reply(bytes: &[u8]) -> Result<ReplyView<'_>, BadFrame>
     ensures exactly { GivesSpelledReply bytes.now result }
-    ensures spelled { IfOk result (λ view. SpellsReply bytes.now view.head view.kind (reply_of view.body)) }
-    ensures read { IfOk result (λ view. ReadsAsReply bytes.now view.head view.kind (reply_of view.body)) }
+    ensures spelled { IfOk result
+        (λ view. SpellsReply bytes.now view.head view.kind (reply_of view.body)) }
+    ensures read { IfOk result
+        (λ view. ReadsAsReply bytes.now view.head view.kind (reply_of view.body)) }
     ensures fault { result_err result ≡ reply_fault bytes.now }
 {
-    let header = read_header(128, bytes)?;
+    let header = read_header(REPLY, bytes)?;
     let body = read_body(header.kind, &bytes[HEADER_BYTES..])?;
     Ok(ReplyView {
         head: header.head,

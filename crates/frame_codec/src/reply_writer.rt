@@ -8,7 +8,7 @@ ghost use Rattle.flat_model.specs.Frames.{IsHead, is_reply_of, kind_number, repl
 ghost use Rattle.frame_codec.specs.Parts.{reply_body};
 ghost use Rattle.frame_codec.specs.Writing.{IsWritten, may_carry};
 
-use crate::headers::{HEADER_BYTES, number_of, write_header};
+use crate::headers::{HEADER_BYTES, REPLY, kind_number, write_header};
 use crate::places::{put_u32, put_u64};
 use cl_types::call::Kind;
 use cl_types::frame::Head;
@@ -67,10 +67,11 @@ pub fn write_reply(head: &Head, kind: Kind, body: &ReplyRef, out: &mut [u8]) -> 
     requires head { IsHead head.now }
     requires body { IsTrue (is_reply_of kind (reply_of body.now)) }
     ensures short { result ≤ 1051 }
-    ensures written { IsWritten (reply_frame head.now kind (reply_of body.now)) result out.old out.new }
+    ensures written { let frame = reply_frame head.now kind (reply_of body.now) in
+        IsWritten frame result out.old out.new }
 {
     let len = write_body(body, &mut out[HEADER_BYTES..]);
-    write_header(128 + number_of(kind), head, len as u16, out);
+    write_header(REPLY + kind_number(kind), head, len as u16, out);
     HEADER_BYTES + len
 }
 
@@ -87,6 +88,6 @@ pub fn write_got(head: &Head, kind: Kind, len: usize, out: &mut [u8]) -> usize
     ensures kept { drop 27 out.new ≡ drop 27 out.old }
 {
     out[HEADER_BYTES] = 0;
-    write_header(128 + number_of(kind), head, 1 + len as u16, out);
+    write_header(REPLY + kind_number(kind), head, 1 + len as u16, out);
     HEADER_BYTES + (1 + len)
 }

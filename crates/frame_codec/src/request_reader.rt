@@ -180,8 +180,10 @@ fn read_offload(body: &[u8]) -> Result<RequestRef<'_>, BadFrame>
 
 /// Reads the body of a request of this kind.
 fn read_body(kind: Kind, body: &[u8]) -> Result<RequestRef<'_>, BadFrame>
-    ensures fault { result_err result ≡ first_fault (request_checks (kind_number kind) (length body.now) body.now) }
-    ensures value { IfOk result (λ request. request_of request ≡ request_in_body (kind_number kind) body.now) }
+    ensures fault { let number = kind_number kind in
+        result_err result ≡ first_fault (request_checks number (length body.now) body.now) }
+    ensures value { let number = kind_number kind in
+        IfOk result (λ request. request_of request ≡ request_in_body number body.now) }
 {
     match kind {
         Kind::Alloc => read_alloc(body),
@@ -197,7 +199,8 @@ fn read_body(kind: Kind, body: &[u8]) -> Result<RequestRef<'_>, BadFrame>
 /// bytes is told.
 pub fn read_request(bytes: &[u8]) -> Result<RequestView<'_>, BadFrame>
     ensures exactly { GivesSpelledRequest bytes.now result }
-    ensures spelled { IfOk result (λ view. SpellsRequest bytes.now view.head (request_of view.body)) }
+    ensures spelled { IfOk result
+        (λ view. SpellsRequest bytes.now view.head (request_of view.body)) }
     ensures read { IfOk result (λ view. ReadsAsRequest bytes.now view.head (request_of view.body)) }
     ensures fault { result_err result ≡ request_fault bytes.now }
 {

@@ -7,7 +7,7 @@ ghost use Rattle.flat_model.specs.Frames.{IsHead, kind_number, kind_of, op_spell
 ghost use Rattle.flat_model.specs.Ranges.{is_in_range};
 ghost use Rattle.frame_codec.specs.Writing.{IsWritten};
 
-use crate::headers::{HEADER_BYTES, number_of, write_header};
+use crate::headers::{HEADER_BYTES, kind_number, write_header};
 use crate::places::{put_u16, put_u32, put_u64};
 use cl_types::call::{AtomicOp, Kind, Perm};
 use cl_types::frame::Head;
@@ -44,7 +44,7 @@ fn write_alloc(pages: u16, perm: Perm, out: &mut [u8]) -> usize
 }
 
 /// Writes an address and a number of pages or of bytes.
-fn write_range(addr: Addr, count: u16, out: &mut [u8]) -> usize
+fn write_addr_and_count(addr: Addr, count: u16, out: &mut [u8]) -> usize
     requires { 6 ≤ length out.old }
     ensures len { result ≡ 6 }
     ensures written { out.new ≡ request_body (owned.Read addr count) ++ drop result out.old }
@@ -99,7 +99,8 @@ fn write_atomic(addr: Addr, op: AtomicOp, out: &mut [u8]) -> usize
 fn write_offload(no: u8, op: u8, answer: u16, bytes: &[u8], out: &mut [u8]) -> usize
     requires { 4 + length bytes.now ≤ length out.old }
     ensures len { result ≡ length (request_body (owned.Offload no op answer bytes.now)) }
-    ensures written { out.new ≡ request_body (owned.Offload no op answer bytes.now) ++ drop result out.old }
+    ensures written { let body = request_body (owned.Offload no op answer bytes.now) in
+        out.new ≡ body ++ drop result out.old }
 {
     out[0] = no;
     out[1] = op;
@@ -117,8 +118,8 @@ fn write_body(body: &RequestRef, out: &mut [u8]) -> usize
 {
     match *body {
         RequestRef::Alloc { pages, perm } => write_alloc(pages, perm, out),
-        RequestRef::Free { addr, pages } => write_range(addr, pages, out),
-        RequestRef::Read { addr, len } => write_range(addr, len, out),
+        RequestRef::Free { addr, pages } => write_addr_and_count(addr, pages, out),
+        RequestRef::Read { addr, len } => write_addr_and_count(addr, len, out),
         RequestRef::Write { addr, bytes } => write_write(addr, bytes, out),
         RequestRef::Atomic { addr, op } => write_atomic(addr, op, out),
         RequestRef::Offload {
@@ -137,9 +138,10 @@ pub fn write_request(head: &Head, body: &RequestRef, out: &mut [u8]) -> usize
     requires head { IsHead head.now }
     requires body { IsTrue (is_in_range (request_of body.now)) }
     ensures short { result ≤ 1054 }
-    ensures written { IsWritten (request_frame head.now (request_of body.now)) result out.old out.new }
+    ensures written { let frame = request_frame head.now (request_of body.now) in
+        IsWritten frame result out.old out.new }
 {
     let len = write_body(body, &mut out[HEADER_BYTES..]);
-    write_header(number_of(kind_of(body)), head, len as u16, out);
+    write_header(kind_number(kind_of(body)), head, len as u16, out);
     HEADER_BYTES + len
 }
