@@ -1,7 +1,5 @@
 //! What no clause says: values from outside, and that calls succeed.
 
-ghost use Rattle.std.specs.Prelude.{◌<◌};
-
 use crate::{
     BadFrame, FieldName, Head, read_reply, read_request, write_got, write_reply, write_request,
 };
@@ -174,36 +172,153 @@ fn bytes_that_stand_in_a_buffer_are_written_as_a_reply(rt: HostRuntime) {
     );
 }
 
-/// The fault of the Alloc's bytes, with another byte at a place.
-fn fault_with(at: usize, byte: u8) -> Option<BadFrame>
-    requires { at < 29 }
-{
-    let mut bytes = [0; 29];
-    bytes.copy_from_slice(ALLOC);
-    bytes[at] = byte;
-    match read_request(&bytes) {
-        Ok(_) => None,
-        Err(fault) => Some(fault),
+#[test]
+fn the_first_fault_of_a_header_is_told(rt: HostRuntime) {
+    let cases: [(&[u8], BadFrame); 12] = [
+        // 25 bytes
+        (
+            b"CL\x01\x01\0\x01\0\x01\0\0\0\0\0\0\0\x01\0\0\0\0\0\0\0\x01\0",
+            BadFrame::Short { have: 25, need: 26 },
+        ),
+        // another magic
+        (
+            b"DL\x01\x01\0\x01\0\x01\0\0\0\0\0\0\0\x01\0\0\0\0\0\0\0\x01\0\x03\0\x01\x03",
+            BadFrame::Magic,
+        ),
+        // another magic and another version
+        (
+            b"DL\x02\x01\0\x01\0\x01\0\0\0\0\0\0\0\x01\0\0\0\0\0\0\0\x01\0\x03\0\x01\x03",
+            BadFrame::Magic,
+        ),
+        // another version
+        (
+            b"CL\x02\x01\0\x01\0\x01\0\0\0\0\0\0\0\x01\0\0\0\0\0\0\0\x01\0\x03\0\x01\x03",
+            BadFrame::Version(2),
+        ),
+        // another version and a reply's kind
+        (
+            b"CL\x02\x81\0\x01\0\x01\0\0\0\0\0\0\0\x01\0\0\0\0\0\0\0\x01\0\x03\0\x01\x03",
+            BadFrame::Version(2),
+        ),
+        // a reply's kind
+        (
+            b"CL\x01\x81\0\x01\0\x01\0\0\0\0\0\0\0\x01\0\0\0\0\0\0\0\x01\0\x03\0\x01\x03",
+            BadFrame::Kind(0x81),
+        ),
+        // a body with a byte too few
+        (
+            b"CL\x01\x01\0\x01\0\x01\0\0\0\0\0\0\0\x01\0\0\0\0\0\0\0\x01\0\x04\0\x01\x03",
+            BadFrame::Short { have: 29, need: 30 },
+        ),
+        // a body with a byte too many
+        (
+            b"CL\x01\x01\0\x01\0\x01\0\0\0\0\0\0\0\x01\0\0\0\0\0\0\0\x01\0\x02\0\x01\x03",
+            BadFrame::Long { have: 29, need: 28 },
+        ),
+        // process 0
+        (
+            b"CL\x01\x01\0\x01\0\0\0\0\0\0\0\0\0\x01\0\0\0\0\0\0\0\x01\0\x03\0\x01\x03",
+            BadFrame::Field(FieldName::Pid),
+        ),
+        // process 0 and id 0
+        (
+            b"CL\x01\x01\0\x01\0\0\0\0\0\0\0\0\0\0\0\0\0\0\0\0\0\x01\0\x03\0\x01\x03",
+            BadFrame::Field(FieldName::Pid),
+        ),
+        // id 0
+        (
+            b"CL\x01\x01\0\x01\0\x01\0\0\0\0\0\0\0\0\0\0\0\0\0\0\0\x01\0\x03\0\x01\x03",
+            BadFrame::Field(FieldName::Id),
+        ),
+        // an orig above its id
+        (
+            b"CL\x01\x01\0\x01\0\x01\0\0\0\0\0\0\0\x01\0\0\0\0\0\0\0\x02\0\x03\0\x01\x03",
+            BadFrame::Field(FieldName::Orig),
+        ),
+    ];
+    for (bytes, want) in cases {
+        let Err(fault) = read_request(bytes) else {
+            panic!(rt; "{bytes:?} is read");
+        };
+        assert_eq!(rt; fault, want, "{bytes:?}");
     }
 }
 
 #[test]
-fn the_first_fault_is_told(rt: HostRuntime) {
-    assert_eq!(rt; fault_with(0, 0x44), Some(BadFrame::Magic));
-    assert_eq!(rt; fault_with(2, 2), Some(BadFrame::Version(2)));
-    assert_eq!(rt; fault_with(3, 0x81), Some(BadFrame::Kind(0x81)));
-    assert_eq!(rt;
-        fault_with(25, 4),
-        Some(BadFrame::Short { have: 29, need: 30 })
-    );
-    assert_eq!(rt;
-        fault_with(25, 2),
-        Some(BadFrame::Long { have: 29, need: 28 })
-    );
-    assert_eq!(rt; fault_with(7, 0), Some(BadFrame::Field(FieldName::Pid)));
-    assert_eq!(rt; fault_with(15, 0), Some(BadFrame::Field(FieldName::Id)));
-    assert_eq!(rt; fault_with(23, 2), Some(BadFrame::Field(FieldName::Orig)));
-    assert_eq!(rt; fault_with(3, 2), Some(BadFrame::Field(FieldName::Body)));
-    assert_eq!(rt; fault_with(27, 0), Some(BadFrame::Field(FieldName::Pages)));
-    assert_eq!(rt; fault_with(28, 4), Some(BadFrame::Field(FieldName::Perm)));
+fn the_first_fault_of_a_request_is_told(rt: HostRuntime) {
+    let cases: [(&[u8], BadFrame); 7] = [
+        // a Free of 3 bytes
+        (
+            b"CL\x01\x02\0\x01\0\x01\0\0\0\0\0\0\0\x01\0\0\0\0\0\0\0\x01\0\x03\0\x01\x03",
+            BadFrame::Field(FieldName::Body),
+        ),
+        // an Alloc of 0 pages
+        (
+            b"CL\x01\x01\0\x01\0\x01\0\0\0\0\0\0\0\x01\0\0\0\0\0\0\0\x01\0\x03\0\0\x03",
+            BadFrame::Field(FieldName::Pages),
+        ),
+        // an Alloc with permission 4
+        (
+            b"CL\x01\x01\0\x01\0\x01\0\0\0\0\0\0\0\x01\0\0\0\0\0\0\0\x01\0\x03\0\x01\x04",
+            BadFrame::Field(FieldName::Perm),
+        ),
+        // a Free of 0 pages at an address within a page
+        (
+            b"CL\x01\x02\0\x01\0\x01\0\0\0\0\0\0\0\x01\0\0\0\0\0\0\0\x01\0\x06\0\0\x10\x01\0\0",
+            BadFrame::Field(FieldName::Addr),
+        ),
+        // a Read of 0 bytes at 2^28
+        (
+            b"CL\x01\x03\0\x01\0\x01\0\0\0\0\0\0\0\x01\0\0\0\0\0\0\0\x01\0\x06\x10\0\0\0\0\0",
+            BadFrame::Field(FieldName::Addr),
+        ),
+        // a Read of 5 bytes at 0x1ffc
+        (
+            b"CL\x01\x03\0\x01\0\x01\0\0\0\0\0\0\0\x01\0\0\0\0\0\0\0\x01\0\x06\0\0\x1f\xfc\0\x05",
+            BadFrame::Field(FieldName::Len),
+        ),
+        // operation 4 in a body of 13 bytes
+        (
+            b"CL\x01\x05\0\x01\0\x01\0\0\0\0\0\0\0\x01\0\0\0\0\0\0\0\x01\0\x0d\0\0\x10\0\x04\0\0\0\0\0\0\0\x03",
+            BadFrame::Field(FieldName::Op),
+        ),
+    ];
+    for (bytes, want) in cases {
+        let Err(fault) = read_request(bytes) else {
+            panic!(rt; "{bytes:?} is read");
+        };
+        assert_eq!(rt; fault, want, "{bytes:?}");
+    }
+}
+
+#[test]
+fn the_first_fault_of_a_reply_is_told(rt: HostRuntime) {
+    let cases: [(&[u8], BadFrame); 4] = [
+        // a request's kind
+        (
+            b"CL\x01\x01\0\x01\0\x01\0\0\0\0\0\0\0\x01\0\0\0\0\0\0\0\x01\0\x03\0\x01\x03",
+            BadFrame::Kind(1),
+        ),
+        // status 9 in a body of 5 bytes
+        (
+            b"CL\x01\x81\0\x01\0\x01\0\0\0\0\0\0\0\x01\0\0\0\0\0\0\0\x01\0\x05\x09\0\0\x10\0",
+            BadFrame::Field(FieldName::Status),
+        ),
+        // an Alloc that is Ok at 0
+        (
+            b"CL\x01\x81\0\x01\0\x01\0\0\0\0\0\0\0\x01\0\0\0\0\0\0\0\x01\0\x05\0\0\0\0\0",
+            BadFrame::Field(FieldName::Addr),
+        ),
+        // a Read that is Ok with no bytes
+        (
+            b"CL\x01\x83\0\x01\0\x01\0\0\0\0\0\0\0\x01\0\0\0\0\0\0\0\x01\0\x01\0",
+            BadFrame::Field(FieldName::Body),
+        ),
+    ];
+    for (bytes, want) in cases {
+        let Err(fault) = read_reply(bytes) else {
+            panic!(rt; "{bytes:?} is read");
+        };
+        assert_eq!(rt; fault, want, "{bytes:?}");
+    }
 }
