@@ -1,0 +1,6 @@
+pub mod Among
+pub mod Entries
+pub mod Fitting
+pub mod Window
+pub mod Ranges
+pub mod Frames

@@ -1,0 +1,24 @@
+//! Ranges of pages in a page table: mapping one at the least start that fits, and unmapping it.
+//!
+//! A range is one or more neighbouring pages of a space. The entry of its first page has the number
+//! of its pages as its span, and the entries of its other pages have the span 0. Both calls need
+//! that each mapped page lies in exactly one range and each page of a range is mapped, and keep it.
+//! `unmap_range` gives the frames of the pages back to the pool, so it also needs that each frame
+//! that the table names was taken from the pool and is named once, and keeps this too. The caller
+//! forgets the pages in its cache, and refills the pool.
+//!
+//! A range fits at a start where its pages are pages of the space, none is mapped, and no bucket
+//! would come to hold more than four pages, two pages of the range in one bucket among them. The
+//! search maps page after page from a start on. Where the next page can't join, no start at or
+//! before the first mapped page fits that reaches it, so that first page leaves. Each page of the
+//! space joins and leaves once at most: how long a search takes is bounded by the size of the space,
+//! and not by that times the size of the range. No clause says so. No call takes memory.
+#![tactic(auto)]
+
+mod map;
+#[cfg(test)]
+mod tests;
+mod unmap;
+
+pub use map::map_range;
+pub use unmap::unmap_range;
