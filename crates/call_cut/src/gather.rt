@@ -164,7 +164,7 @@ fn first_given_up(outcomes: &[Outcome]) -> Option<Answer>
 fn first_refusal(outcomes: &[Outcome]) -> Option<Answer>
     ensures { result ≡ refusal_among outcomes.now }
 {
-    for outcome in outcomes.iter() {
+    for outcome in outcomes {
         if let Outcome::Refused(refusal) = *outcome {
             return Some(Answer::Refused(refusal));
         }
