@@ -2,15 +2,16 @@
 use Rattle.std.specs.Prelude.{ℕ, ◌+◌, ◌*◌, ◌/◌, ◌%◌, ◌^◌}
 use Rattle.flat_model.specs.Frames.{kind_number}
 use Rattle.flat_model.specs.Nodes.{Name}
+use Rattle.retry_buffer.specs.declared.chain.TheConstants.{NEIGHBOURS, SENDER, STEP}
 
 -- the hash of whoever sends requests of one kind, of 64 bits
 abbrev pub sender_hash : Name → ℕ
-sender_hash name = (name.client.0 * 8 + kind_number name.kind) * 14029467366897019727 % 2 ^ 64
+sender_hash name = (name.client.0 * 8 + kind_number name.kind) * SENDER % 2 ^ 64
 
--- the hash of a name, the same for ids of one eighth, of 32 bits
+-- the hash of a name, the same for ids that stand side by side, of 32 bits
 abbrev pub hash_of : Name → ℕ
-hash_of name = (name.orig / 8 * 11400714819323198485 % 2 ^ 64 + sender_hash name) % 2 ^ 64 / 2 ^ 32
+hash_of name = (name.orig / NEIGHBOURS * STEP % 2 ^ 64 + sender_hash name) % 2 ^ 64 / 2 ^ 32
 
 -- the chain of a name, for so many records
 unfoldable pub chain_of : ℕ → Name → ℕ
-chain_of capacity name = hash_of name * capacity / 2 ^ 32 + name.orig % 8
+chain_of capacity name = hash_of name * capacity / 2 ^ 32 + name.orig % NEIGHBOURS

@@ -7,17 +7,17 @@ ghost use Rattle.retry_buffer.specs.Chains.{chain_of};
 use cl_types::call::Kind;
 use cl_types::numbers::ClientNo;
 
-/// How many ids in a row have chains that stand side by side.
+/// How many ids, from a multiple of it on, have chains that stand side by side.
 pub const NEIGHBOURS: u64 = 8;
 
-// An odd number near 2^64 times the golden ratio's part: the hashes of numbers in a row lie far apart.
+// The odd number next to 2^64 over the golden ratio: the hashes of numbers in a row lie evenly apart.
 const STEP: u64 = 0x9E37_79B9_7F4A_7C15;
 
-// An odd number with no simple ratio to `STEP`, so that the hashes of two senders don't fall together.
+// Another odd number, so that the hashes of two senders don't fall together.
 const SENDER: u64 = 0xC2B2_AE3D_27D4_EB4F;
 
-/// The number of the chain of a name, for `capacity` records. The ids from a multiple of 8 to the next have
-/// neighbouring chains: what writes records in order of id then stays in the same lines of memory.
+/// The number of the chain of a name, for `capacity` records. Ids that follow each other mostly have chains that do:
+/// a hash that scattered them all would want another line of memory for each record.
 #[tactic(auto, unfolding(crate::specs::Chains::chain_of))]
 pub fn chain_of(client: ClientNo, kind: Kind, orig: u64, capacity: u32) -> u32
     requires some { 1 ≤ capacity }

@@ -6,8 +6,12 @@
 //! capacity, their moments never fall, and no two have one name. How the records lie and are found shows in no clause.
 //!
 //! Which replies are noted, and that a kept reply is given again, is left to the node. Only `Retry::create` takes
-//! memory. That `look` walks one chain of names, and that no other call takes longer the more records there are, can be
-//! seen in the code, and no clause says it.
+//! memory. That `look` walks one chain of names, and that `room`, `note` and `retained` take no longer the more records
+//! there are, can be seen in the code, and no clause says it.
+//!
+//! A known limit: the chain of a name comes of a hash that anyone can compute. Of 65,536 records the longest chain has
+//! 2 where one client's ids rise, 5 where those of 64 clients do, and all 65,536 where a client chooses its ids for
+//! that, so that each `look` walks through all of them. Tests count all three.
 #![tactic(auto)]
 
 mod chain;

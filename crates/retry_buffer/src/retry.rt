@@ -62,6 +62,7 @@ impl Retry {
         ensures valid { IfOk result IsValid }
     {
         let slots = Vec::with_capacity(alloc, capacity as usize)?;
+        // The last hash has a chain, and so have the ids beside it.
         let Ok(chains) = Lists::create(alloc, capacity, capacity + (NEIGHBOURS as u32 - 1)) else {
             return Err(NoMemory);
         };
