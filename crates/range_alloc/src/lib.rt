@@ -8,11 +8,11 @@
 //! forgets the pages in its cache, and refills the pool.
 //!
 //! A range fits at a start where its pages are pages of the space, none is mapped, and no bucket
-//! would come to hold more than four pages, two pages of the range in one bucket among them. The
-//! search maps page after page from a start on. Where the next page can't join, no start at or
-//! before the first mapped page fits that reaches it, so that first page leaves. Each page of the
-//! space joins and leaves once at most: how long a search takes is bounded by the size of the space,
-//! and not by that times the size of the range. No clause says so. No call takes memory.
+//! would come to hold more than four pages, the range's own among them. The search maps page after
+//! page from a start on, so that the table counts them. Where the next page can't join, no range
+//! that begins with the first of these pages fits, and that page leaves. So each page of the space
+//! joins and leaves once at most, however long the range is. No clause says how long a search takes.
+//! No call takes memory.
 #![tactic(auto)]
 
 mod map;

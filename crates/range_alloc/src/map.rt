@@ -30,11 +30,11 @@ pub fn map_range(table: &mut Table, space: Space16, pages: u16, perm: Perm) -> O
     ensures frames { (place : Place) → frame_at table.new place ≡ frame_at table.old place }
     ensures valid { IsValid table.new }
 {
+    // Opens the table: what is valid of it is known from here on.
+    table.buckets();
     let mut start: u32 = 1;
     // So many pages from `start` on have joined the table.
     let mut joined: u32 = 0;
-    // Opens the table: what is valid of it is known.
-    table.buckets();
     while start < SPACE_PAGES {
         if joined == u32::from(pages) {
             let start = Vpn(start as u16);
@@ -75,14 +75,13 @@ fn can_join(table: &Table, space: Space16, page: u32) -> bool
 
 // Maps the page where it can join, and tells whether it could.
 fn join(table: &mut Table, space: Space16, page: u32, perm: Perm) -> bool
+    requires { IsValid table.old }
     ensures joins { result ≡ can_join table.old space.0 page }
     ensures joined { result ≡ true → table.new ≡ with_entry table.old (space.0, page) (new_page perm 0) }
     ensures unchanged { result ≡ false → table.new ≡ table.old }
     ensures valid { IsValid table.new }
 {
     if !can_join(table, space, page) {
-        // Opens the table: what is valid of it is known.
-        table.buckets();
         return false;
     }
     table.insert(space, Vpn(page as u16), new_page(perm, 0));
@@ -91,6 +90,7 @@ fn join(table: &mut Table, space: Space16, page: u32, perm: Perm) -> bool
 
 // Unmaps the first of the joined pages, where there is one, and tells how many are left.
 fn leave(table: &mut Table, space: Space16, start: u32, joined: u32) -> u32
+    requires valid { IsValid table.old }
     requires start { start < SPACE_PAGES }
     requires mapped { 0 < joined → IsSome (entry_of table.old (space.0, start)) }
     ensures left { result ≡ joined - 1 }
@@ -99,8 +99,6 @@ fn leave(table: &mut Table, space: Space16, start: u32, joined: u32) -> u32
     ensures valid { IsValid table.new }
 {
     if joined == 0 {
-        // Opens the table: what is valid of it is known.
-        table.buckets();
         return 0;
     }
     table.remove(space, Vpn(start as u16));

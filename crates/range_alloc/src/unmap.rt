@@ -48,7 +48,7 @@ fn span(table: &Table, space: Space16, start: Vpn) -> u16
     ensures span { result ≡ span_at table.now (space.0, start.0) }
     ensures valid { IsValid table.now }
 {
-    // Opens the table: what is valid of it is known.
+    // Opens the table: what is valid of it is known from here on.
     table.buckets();
     match table.peek(space, start) {
         Some(pte) => pte.span,
