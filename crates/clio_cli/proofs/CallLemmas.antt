@@ -55,6 +55,16 @@ good_piece addr n part sound = record {
   within = grind (arith, nat_tests);
 }
 
+-- a length as far as 64 bits tell it is a part's where the length is
+pub part_as_told : (addr : Addr) (n : ℕ) → is_at_most_a_part addr (min n (2 ^ 64 - 1)) ≡ is_at_most_a_part addr n
+part_as_told addr n = step (leb n (2 ^ 64 - 1)) refl where
+  step : (b : Bool) → leb n (2 ^ 64 - 1) ≡ b → is_at_most_a_part addr (min n (2 ^ 64 - 1)) ≡ is_at_most_a_part addr n
+  step true few = let same : min n (2 ^ 64 - 1) ≡ n = let le : n ≤ 2 ^ 64 - 1 = grind (arith, nat_tests) in omega arith in ap (is_at_most_a_part addr) same
+  step false many =
+      let lt : 2 ^ 64 - 1 < n = grind (arith, nat_tests) in
+      let left : leb (min n (2 ^ 64 - 1)) PART_BYTES ≡ false = grind (arith, nat_tests) in let right : leb n PART_BYTES ≡ false = grind (arith, nat_tests) in
+      rw (left, right) refl
+
 nothing_left : (most at left : ℕ) → left ≡ 0 → pieces_within most at left ≡ []
 nothing_left zero at left none = refl
 nothing_left (suc most) at left none = step (left == 0) (grind (arith, nat_tests)) where

@@ -3,3 +3,7 @@ pub mod RowLemmas
 pub mod HistoryLemmas
 pub mod EngineLemmas
 pub mod Refine
+pub mod Few
+pub mod ReplayLemmas
+pub mod WordLemmas
+pub mod RisingLemmas

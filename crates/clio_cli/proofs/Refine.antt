@@ -45,6 +45,14 @@ use Rattle.account_laws.proofs.Reading.{after_with_entry}
 use Rattle.clio_cli.specs.Engine.{View, alone, answered_line, answered_view, event_line, event_view, handed_view, handling_in, is_built_event, issue_did, item_did, item_view, peek_did, polled_did, polled_view}
 use Rattle.clio_cli.specs.Stands.{IsGoodLoad, IsLook, SendsOne, Stands, Tells, view_at}
 
+-- a frame that is good before a line is so before a later one
+pub later_good : (c : ClientNo) (l m : ℕ) → l ≤ m → (load : Load) → IsGoodLoad c l load → IsGoodLoad c m load
+later_good c l m le (Asks []) good = good
+later_good c l m le (Asks (i ∷ [])) good = good
+later_good c l m le (Asks (i ∷ j ∷ is)) good = good
+later_good c l m le (Answers head reply if_taken) good =
+    (good.0, each_weaker _ _ (λ (x : Entry) (k : IsLook l x). record { reading = k.reading; earlier = let lt : x.line < l = k.earlier in omega (arith, lt, le) }) if_taken good.1)
+
 -- ---- clients
 same_self : (c : ClientNo) → same_client c c ≡ true
 same_self c = grind (arith, nat_tests)
@@ -183,17 +191,8 @@ module _ (config : Config) (c : ClientNo) (events : List (ℕ × Event)) where
   -- ---- what stands before a line
   module _ (l : ℕ) (waiting gone : List Load) (frames : map (λ f. f.load) a.frames ≡ gone ++ waiting) (taken : length gone ≡ taken_in_order a)
       (still : Each (λ (line : Line). ticks_of line.event ≡ 0) a.lines) (earlier : Each (λ (x : Entry). x.line < l) a.history) (loads : Each (IsGoodLoad c l) waiting) where
-    later_looks : (es : List Entry) → Each (IsLook l) es → Each (IsLook (l + 1)) es
-    later_looks es each = each_weaker _ _ (λ (x : Entry) (k : IsLook l x). record { reading = k.reading; earlier = let lt : x.line < l = k.earlier in omega arith }) es each
-
-    later_load : (load : Load) → IsGoodLoad c l load → IsGoodLoad c (l + 1) load
-    later_load (Asks []) good = good
-    later_load (Asks (i ∷ [])) good = good
-    later_load (Asks (i ∷ j ∷ is)) good = good
-    later_load (Answers head reply if_taken) good = (good.0, later_looks if_taken good.1)
-
     later_loads : (loads : List Load) → Each (IsGoodLoad c l) loads → Each (IsGoodLoad c (l + 1)) loads
-    later_loads loads each = each_weaker _ _ later_load loads each
+    later_loads loads each = each_weaker _ _ (later_good c l (l + 1) (omega arith)) loads each
 
     later_entries : Each (λ (x : Entry). x.line < l + 1) a.history
     later_entries = each_weaker _ _ (λ (x : Entry) (lt : x.line < l). omega arith) a.history earlier

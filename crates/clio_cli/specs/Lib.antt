@@ -4,3 +4,8 @@ pub mod BuiltCalls
 pub mod History
 pub mod Engine
 pub mod Stands
+pub mod Built
+pub mod Replay
+pub mod Words
+pub mod Status
+pub mod Run

@@ -1,0 +1,81 @@
+//! The lines that tell why an input was refused.
+
+ghost use Rattle.std.specs.Prelude.{◌≡◌, IfOk};
+ghost use Rattle.std.specs.String.{string_bytes};
+ghost use Rattle.flat_model.specs.Texts.{fault_line, number_text, open_fault_line, what_text};
+
+use cl_types::config::Field;
+use cl_types::items::NoMemory;
+use cl_types::schedule::What;
+use flat_model::open_fault::OpenFault;
+use std::alloc::Global;
+
+/// The words for what is wrong with a line.
+fn what_name(what: What) -> &'static str
+    ensures { result.now ≡ what_text what }
+{
+    match what {
+        What::BadByte => "bad byte",
+        What::BadSpacing => "bad spacing",
+        What::NodeExpected => "node expected",
+        What::ClientExpected => "client expected",
+        What::OutOfPlace => "out of place",
+        What::UnknownWord => "unknown word",
+        What::MissingWord => "missing word",
+        What::ExtraWord => "extra word",
+        What::BadNumber => "bad number",
+        What::BadAddress => "bad address",
+        What::BadPermission => "bad permission",
+        What::BadBytes => "bad bytes",
+        What::UnknownClient => "unknown client",
+        What::ClientRepeated => "client repeated",
+        What::TooManyClients => "too many clients",
+        What::BadLength => "bad length",
+        What::AFrame => "a frame",
+        What::EndExpected => "end expected",
+        What::BadCount => "bad count",
+        What::BadEntry => "bad entry",
+    }
+}
+
+/// The line that tells a bad line of the input.
+pub fn line_fault(alloc: Global, number: u32, what: What) -> Result<String, NoMemory>
+    ensures { IfOk result (λ text. string_bytes text ≡ fault_line (number, what)) }
+{
+    let what = what_name(what);
+    Ok(format!(in alloc; "line {number}: {what}\n")?)
+}
+
+/// The line that tells a line of a kind that is not built.
+pub fn line_not_built(alloc: Global, number: u32) -> Result<String, NoMemory> {
+    Ok(format!(in alloc; "line {number}: not built\n")?)
+}
+
+fn number_name(field: Field) -> &'static str
+    ensures { result.now ≡ number_text field }
+{
+    match field {
+        Field::Pages => "pages",
+        Field::Buckets => "buckets",
+        Field::Ring => "ring",
+        Field::Retry => "retry",
+        Field::Offloads => "offloads",
+        Field::Records => "records",
+    }
+}
+
+/// The line that tells why a node doesn't open, and nothing for want of memory.
+pub fn node_fault(alloc: Global, fault: OpenFault) -> Result<String, NoMemory>
+    ensures { IfOk result (λ text. string_bytes text ≡ open_fault_line fault) }
+{
+    match fault {
+        OpenFault::BadConfig { field, value } => {
+            let name = number_name(field);
+            Ok(format!(in alloc; "bad node: {name} {value}\n")?)
+        }
+        OpenFault::NoRoom { offload, pages } => {
+            Ok(format!(in alloc; "bad node: offload {offload} pages {pages}\n")?)
+        }
+        OpenFault::NoMemory => Ok(String::new(alloc)),
+    }
+}

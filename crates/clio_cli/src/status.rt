@@ -1,0 +1,43 @@
+//! How the program ends.
+
+ghost use Rattle.std.specs.Prelude.{◌≡◌};
+ghost use Rattle.clio_cli.specs.Status.{number_of};
+
+/// How a command ended.
+#[derive(Clone, Copy, Debug, PartialEq, Eq)]
+pub enum Status {
+    /// The input was read to its end, and all was written.
+    Ok,
+    /// The words are no command that is built.
+    BadWords,
+    /// The input is not in the command's grammar.
+    BadInput,
+    /// A read failed.
+    ReadFault,
+    /// A write failed.
+    WriteFault,
+    /// There was no memory.
+    NoMemory,
+    /// The input has too many bytes or lines.
+    TooLong,
+    /// The node doesn't open.
+    BadNode,
+}
+
+impl Status {
+    /// The status as the system is told it.
+    pub fn number(self) -> u8
+        ensures { result ≡ number_of self }
+    {
+        match self {
+            Status::Ok => 0,
+            Status::BadWords => 1,
+            Status::BadInput => 2,
+            Status::ReadFault => 3,
+            Status::WriteFault => 4,
+            Status::NoMemory => 5,
+            Status::TooLong => 8,
+            Status::BadNode => 10,
+        }
+    }
+}
