@@ -15,7 +15,7 @@ fn expand(alloc: Global, written: &Written) -> Result<Bytes, NoMemory>
     ensures { IfOk result (λ bytes. bytes ≡ expanded written.now) }
 {
     let mut bytes = Bytes::create(alloc);
-    for _time in 0..written.times {
+    for time in 0..written.times {
         bytes.append(written.bytes.as_slice())?;
     }
     Ok(bytes)

@@ -29,7 +29,7 @@ fn has_too_many_lines(bytes: &[u8]) -> bool
     ensures { result ≡ nat_lt MOST_LINES (length (lines_in bytes.now)) }
 {
     let mut rest = bytes;
-    for _line in 0..MOST_LINES {
+    for line in 0..MOST_LINES {
         if rest.is_empty() {
             return false;
         }
