@@ -11,12 +11,15 @@ pub record IsAmong (space start n : ℕ) (place : Place) : Type 0 where
   pub low : start ≤ place.1
   pub high : place.1 < start + n
 
+-- as the test tells
 pub among-true : (space start n : ℕ) (place : Place) → is_among space start n place ≡ true → IsAmong space start n place
 among-true space start n place is = record { there = grind (arith, nat_tests); low = grind (arith, nat_tests); high = grind (arith, nat_tests) }
 
+-- a page by its number
 pub among-page : (space start n page : ℕ) → start ≤ page → page < start + n → is_among space start n (space, page) ≡ true
 among-page space start n page low high = grind (arith, nat_tests)
 
+-- there are none
 pub among-none : (space start : ℕ) (place : Place) → is_among space start 0 place ≡ false
 among-none space start place = grind (arith, nat_tests)
 

@@ -16,6 +16,7 @@ use Rattle.flat_model.specs.Step.{is_among}
 use Rattle.range_alloc.specs.Ranges.{new_page, with_pages, with_range, without_range}
 use Rattle.range_alloc.proofs.Among.{among-page, among-none, among-rest, among-more}
 
+-- ---- an entry
 pub entry-with : (table : PageMap) (place : Place) (pte : Pte) (q : Place) → entry_of (with_entry table place pte) q ≡ cond (same_place q place) (Some pte) (entry_of table q)
 entry-with table place pte q = find-put place_cmp place_total q place pte table.entries
 
@@ -26,6 +27,7 @@ not_among : (b : Bool) (x : Option Pte) → cond (not b) x None ≡ cond b None 
 not_among true x = refl
 not_among false x = refl
 
+-- ---- a range
 pub entry-without_range : (table : PageMap) (space start n : ℕ) (q : Place) → entry_of (without_range table space start n) q ≡ cond (is_among space start n q) None (entry_of table q)
 entry-without_range table space start n q =
     find-where_key place_cmp (λ place. not (is_among space start n place)) q (λ x equal. ap (λ y. not (is_among space start n y)) (sym (place_exact q x equal))) table.entries
@@ -42,6 +44,7 @@ frame_in entry = elim entry [ None ↦ None | Some pte ↦ option_map (λ (frame
 abbrev pub page_in : Perm → ℕ → Place → Place → Pte
 page_in perm span first q = new_page perm (cond (same_place q first) span 0)
 
+-- the pages from start on are new, and the others say what they said
 find-with_pages : (perm : Perm) (span space start n : ℕ) (es : List (Place × Pte)) (q : Place)
     → find place_cmp q (with_pages perm span (places_of space start n) es) ≡ cond (is_among space start n q) (Some (page_in perm span (space, start) q)) (find place_cmp q es)
 find-with_pages perm span space start zero es q = rw (among-none space start q) refl
@@ -63,6 +66,7 @@ pub entry-with_range : (table : PageMap) (space start n : ℕ) (perm : Perm) (q 
     → entry_of (with_range table space start n perm) q ≡ cond (is_among space start n q) (Some (page_in perm n (space, start) q)) (entry_of table q)
 entry-with_range table space start n perm q = find-with_pages perm n space start n table.entries q
 
+-- ---- tables in order
 sorted-with_pages : (perm : Perm) (span : ℕ) (places : List Place) (es : List (Place × Pte)) → T (is_sorted place_cmp es) → T (is_sorted place_cmp (with_pages perm span places es))
 sorted-with_pages perm span [] es sorted = sorted
 sorted-with_pages perm span (place ∷ places) es sorted = is_sorted-put place_cmp place_total place (new_page perm span) _ (sorted-with_pages perm 0 places es sorted)
@@ -79,11 +83,12 @@ sorted_table table valid = T_of _ valid.sorted
 pub sorted-with_range : (table : PageMap) (space start n : ℕ) (perm : Perm) → IsValid table → T (is_sorted place_cmp (with_range table space start n perm).entries)
 sorted-with_range table space start n perm valid = sorted-with_pages perm n (places_of space start n) table.entries (sorted_table table valid)
 
-pub sorted-without_range : (table : PageMap) (space start n : ℕ) → IsValid table → T (is_sorted place_cmp (without_range table space start n).entries)
+sorted-without_range : (table : PageMap) (space start n : ℕ) → IsValid table → T (is_sorted place_cmp (without_range table space start n).entries)
 sorted-without_range table space start n valid = is_sorted-where_key place_cmp (λ place. not (is_among space start n place)) table.entries (sorted_table table valid)
 
 -- ---- a page that is mapped anew
-pub found_entry : (entry : Option Pte) → is_some entry ≡ true → (pte : Pte) × (entry ≡ Some pte)
+-- the entry that was found
+found_entry : (entry : Option Pte) → is_some entry ≡ true → (pte : Pte) × (entry ≡ Some pte)
 found_entry None is = absurd cc
 found_entry (Some pte) is = (pte, refl)
 
@@ -112,6 +117,7 @@ with-again table cut new place pte valid after before is =
     ])
 
 -- ---- a range leaves, page by page
+-- one page more is gone
 pub range_shrinks : (table part new : PageMap) (space start n : ℕ) → IsValid table → IsValid new → part ≡ without_range table space start n → new ≡ without_entry part (space, start + n)
     → new ≡ without_range table space start (n + 1)
 range_shrinks table part new space start n valid after before is =
@@ -129,6 +135,7 @@ range_shrinks table part new space start n valid after before is =
       | inr two ↦ rw (two.1, among-more space start n q two.0) refl
     ]
 
+-- none is gone yet
 pub range_whole : (table : PageMap) (space start : ℕ) → IsValid table → table ≡ without_range table space start 0
 range_whole table space start valid =
     same_table table (without_range table space start 0) refl (sorted_table table valid) (sorted-without_range table space start 0 valid)

@@ -13,7 +13,7 @@ use Rattle.flat_model.specs.Rows.{keys}
 use Rattle.flat_model.specs.State.{fits, is_mapped, places_of}
 
 -- a page is among the keys of a table where the table says something of it
-pub mapped_key : (table : PageMap) (place : Place) → is_mapped (keys table.entries) place ≡ is_some (entry_of table place)
+mapped_key : (table : PageMap) (place : Place) → is_mapped (keys table.entries) place ≡ is_some (entry_of table place)
 mapped_key table place = sym (is_some-find place_cmp place table.entries)
 
 -- a range has a page
@@ -25,9 +25,11 @@ some_pages n count = grind (arith, nat_tests)
 abbrev pub one_at : ℕ → ℕ → Place → ℕ
 one_at buckets home place = cond (home_of buckets place == home) 1 0
 
+-- by its first page
 pub homes_first : (buckets home space start n : ℕ) → homes_at buckets home (places_of space start (suc n)) ≡ one_at buckets home (space, start) + homes_at buckets home (places_of space (start + 1) n)
 homes_first buckets home space start n = sum_by-cons (one_at buckets home) (space, start) (places_of space (start + 1) n)
 
+-- by its last page
 pub homes_more : (buckets home space start n : ℕ) → homes_at buckets home (places_of space start (n + 1)) ≡ homes_at buckets home (places_of space start n) + one_at buckets home (space, start + n)
 homes_more buckets home space start n = sum_by-map-range_with_len_more (one_at buckets home) (λ page. (space, page)) start n (start + n) refl
 
@@ -39,6 +41,7 @@ homes_rise buckets home space start n (suc more) =
     rw same (omega (arith, homes_more buckets home space start (n + more), homes_rise buckets home space start n more))
 
 -- ---- a range fits
+-- a test that each page passes, and one that each bucket passes
 all_pages : (test : Place → Bool) (space start n : ℕ) → ((page : ℕ) → start ≤ page → page < start + n → test (space, page) ≡ true) → list_all test (places_of space start n) ≡ true
 all_pages test space start zero passes = refl
 all_pages test space start (suc n) passes =
@@ -60,6 +63,7 @@ module _ (table : PageMap) (space start n : ℕ) where
     pub unmapped : (page : ℕ) → start ≤ page → page < start + n → is_some (entry_of table (space, page)) ≡ false
     pub four : (home : ℕ) → load table home + homes_at table.buckets home (places_of space start n) ≤ 4
 
+  -- then the range fits
   pub fits-true : Fits → fits table.buckets (keys table.entries) space start n ≡ true
   fits-true holds =
       let low : leb 1 start ≡ true = let le = holds.low in grind (arith, nat_tests) in
@@ -69,9 +73,11 @@ module _ (table : PageMap) (space start n : ℕ) where
       (all_homes (λ home. leb (load table home + homes_at table.buckets home (places_of space start n)) 4) 0 table.buckets (λ home. let le = holds.four home in grind (arith, nat_tests)))
 
   -- ---- a range doesn't fit
+  -- it doesn't end with the space
   pub too_far : 65536 < start + n → fits table.buckets (keys table.entries) space start n ≡ false
   too_far past = let far : leb (start + n) 65536 ≡ false = grind (arith, nat_tests) in grind arith
 
+  -- one of its pages is mapped
   pub page_mapped : (i : ℕ) → i < n → is_some (entry_of table (space, start + i)) ≡ true → fits table.buckets (keys table.entries) space start n ≡ false
   page_mapped i below mapped =
       let test : Place → Bool = λ place. not (is_mapped (keys table.entries) place) in
@@ -81,6 +87,7 @@ module _ (table : PageMap) (space start n : ℕ) where
       list_all_at test (places_of space start n) i (space, 0) inside (ap test (get_or-map-range_with_len {X = Place} (λ page. (space, page)) start n i (start + i) (space, 0) below refl) ∙ here) in
       grind arith
 
+  -- a bucket would have more than four
   pub bucket_full : (home : ℕ) → home < table.buckets → 4 < load table home + homes_at table.buckets home (places_of space start n) → fits table.buckets (keys table.entries) space start n ≡ false
   bucket_full home below full =
       let test : ℕ → Bool = λ home. leb (load table home + homes_at table.buckets home (places_of space start n)) 4 in

@@ -18,7 +18,7 @@ abbrev pub with_dirty : PoolPages → List ℕ → PoolPages
 with_dirty pool frames = record pool { dirty = pool.dirty ++ frames }
 
 -- a page that is taken is still taken when another is released
-pub still_taken : (pool : PoolPages) (released frame : ℕ) → IsTaken pool frame → frame ≢ released → IsTaken (with_dirty pool (released ∷ [])) frame
+still_taken : (pool : PoolPages) (released frame : ℕ) → IsTaken pool frame → frame ≢ released → IsTaken (with_dirty pool (released ∷ [])) frame
 still_taken pool released frame taken other =
     let same : pool.ring ++ (pool.clean ++ (pool.dirty ++ released ∷ [])) ≡ free_list pool ++ released ∷ [] = simp append_assoc in
     record {
@@ -26,7 +26,8 @@ still_taken pool released frame taken other =
       not_free = rw same (has-append (free_list pool) (released ∷ []) frame ∙ rw (taken.not_free, ne_eqb frame released other) refl);
     }
 
-pub frame-without : (table : PageMap) (place q : Place) → frame_at (without_entry table place) q ≡ cond (same_place q place) None (frame_at table q)
+-- a page that leaves names no frame, and each other page names what it named
+frame-without : (table : PageMap) (place q : Place) → frame_at (without_entry table place) q ≡ cond (same_place q place) None (frame_at table q)
 frame-without table place q = ap frame_in (entry-without table place q) ∙ choice (same_place q place)
   where
     choice : (b : Bool) → frame_in (cond b None (entry_of table q)) ≡ cond b None (frame_at table q)
@@ -57,9 +58,11 @@ module _ (table : PageMap) (pool : PoolPages) (place : Place) (frames : AreTaken
     | inr two ↦ (sym (frame-without table place q ∙ rw two.1 refl) ∙ is, two.0)
   ]
 
+  -- the frame of each other page is still taken
   pub record AreStill (left : PoolPages) : Type 0 where
     pub each : (q : Place) (frame : ℕ) → frame_at table q ≡ Some frame → q ≢ place → IsTaken left frame
 
+  -- so it is after the page left
   pub taken_left : (new : PageMap) (left : PoolPages) → new ≡ without_entry table place → AreStill left → AreTaken new left
   taken_left new left is still = record {
     taken = λ q frame named. let was = stays q frame (sym (ap (λ (t : PageMap). frame_at t q) is) ∙ named) in still.each q frame was.0 was.1;
@@ -75,16 +78,17 @@ module _ (table : PageMap) (pool : PoolPages) (place : Place) (frames : AreTaken
         rw is (still_taken pool released frame (frames.taken q frame mine) apart);
   }
 
-  -- it has none
+  -- it has none, and the pool stays
   pub still_same : (left : PoolPages) → left ≡ pool → AreStill left
   still_same left is = record { each = λ q frame mine other. rw is (frames.taken q frame mine) }
 
 -- the frames of the pages, one page more
-pub frames_more : (table : PageMap) (space start n : ℕ) → frames_of table space start (n + 1) ≡ frames_of table space start n ++ cons_option (frame_at table (space, start + n)) []
+frames_more : (table : PageMap) (space start n : ℕ) → frames_of table space start (n + 1) ≡ frames_of table space start n ++ cons_option (frame_at table (space, start + n)) []
 frames_more table space start n =
     ap (filter_map (frame_at table)) (map-range_with_len_more (λ (page : ℕ). let place : Place = (space, page) in place) start n (start + n) refl)
     ∙ filter_map-append (frame_at table) (places_of space start n) ((space, start + n) ∷ [])
 
+-- and they are released, one page more
 pub dirty_more : (table part : PageMap) (pool some new : PoolPages) (space start n : ℕ) → entry_of part (space, start + n) ≡ entry_of table (space, start + n)
     → some ≡ with_dirty pool (frames_of table space start n) → new ≡ with_dirty some (cons_option (frame_at part (space, start + n)) [])
     → new ≡ with_dirty pool (frames_of table space start (n + 1))

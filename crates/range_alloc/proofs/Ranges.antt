@@ -28,6 +28,7 @@ module _ (table : PageMap) (space start n : ℕ) (perm : Perm) (ranges : AreRang
   abbrev after : PageMap
   after = with_range table space start n perm
 
+  -- what the table says of the new pages, and of the others
   entry_inside : (q : Place) → is_among space start n q ≡ true → entry_of after q ≡ Some (page_in perm n (space, start) q)
   entry_inside q is = entry-with_range table space start n perm q ∙ rw is refl
 
@@ -48,18 +49,21 @@ module _ (table : PageMap) (space start n : ℕ) (perm : Perm) (ranges : AreRang
     pub low : start ≤ page
     pub below : page < start + n
 
+  -- each new page lies in the new range
   new_is_in : (page : ℕ) → start ≤ page → page < start + n → IsIn after space start page
   new_is_in page low below =
       let is : is_among space start n (space, start) ≡ true = among-page space start n start (omega arith) (omega (arith, some)) in
       let span : span_at after (space, start) ≡ n = ap span_in (entry_inside (space, start) is) ∙ rw (same_place-self (space, start)) refl in
       (low, omega (arith, span, below))
 
+  -- a page that lay in a range lies in it still
   old_is_in : (s a page : ℕ) → IsIn table s a page → IsIn after s a page
   old_is_in s a page inside =
       let mapped = ranges.mapped s a a (first_in table s a page inside) in
       let span : span_at after (s, a) ≡ span_at table (s, a) = ap span_in (entry_outside (s, a) (apart (s, a) mapped)) in
       (inside.0, omega (arith, span, inside.1))
 
+  -- a page that lies in a range lies in the new one, or lay in one
   in_after : (s a page : ℕ) → IsIn after s a page → IsNew s a page ⊎ IsIn table s a page
   in_after s a page inside = elim (cases_Bool (is_among space start n (s, a))) [
     | inl is ↦ elim (split_place (s, a) (space, start)) [
@@ -83,6 +87,7 @@ module _ (table : PageMap) (space start n : ℕ) (perm : Perm) (ranges : AreRang
       let isnt = apart (s, page) (ranges.mapped s b page old) in
       cc
 
+  -- so each mapped page lies in exactly one range, as before
   pub ranges_with : AreRanges after
   ranges_with = record {
     covered = covered;
@@ -129,6 +134,7 @@ module _ (table : PageMap) (space start n : ℕ) (ranges : AreRanges table) (sta
   abbrev left : PageMap
   left = without_range table space start n
 
+  -- what the table says of the pages that left, and of the others
   gone : (q : Place) → is_among space start n q ≡ true → entry_of left q ≡ None
   gone q is = entry-without_range table space start n q ∙ rw is refl
 
@@ -136,7 +142,7 @@ module _ (table : PageMap) (space start n : ℕ) (ranges : AreRanges table) (sta
   stays q isnt = entry-without_range table space start n q ∙ rw isnt refl
 
   -- each of the pages lies in the range
-  pub page_is_in : (page : ℕ) → start ≤ page → page < start + n → IsIn table space start page
+  page_is_in : (page : ℕ) → start ≤ page → page < start + n → IsIn table space start page
   page_is_in page low below = (low, omega (arith, stands, below))
 
   -- so it is mapped
@@ -175,6 +181,7 @@ module _ (table : PageMap) (space start n : ℕ) (ranges : AreRanges table) (sta
           let span : span_at table (s, start) ≡ n = ap (λ x. span_at table (x, start)) there ∙ stands in
           rw there (among-page space start n page inside.0 (omega (arith, inside.1, span)))
 
+  -- in a range that stays a page lies still
   stays_in : (s a page : ℕ) → is_among space start n (s, a) ≡ false → IsIn table s a page → IsIn left s a page
   stays_in s a page isnt inside =
       let span : span_at left (s, a) ≡ span_at table (s, a) = ap span_in (stays (s, a) isnt) in
@@ -185,6 +192,7 @@ module _ (table : PageMap) (space start n : ℕ) (ranges : AreRanges table) (sta
     pub inside : IsIn table s a page
     pub begins : is_among space start n (s, a) ≡ false
 
+  -- a page that lies in a range lay in it
   lay : (s a page : ℕ) → IsIn left s a page → Lay s a page
   lay s a page inside = elim (cases_Bool (is_among space start n (s, a))) [
     | inl is ↦
@@ -195,6 +203,7 @@ module _ (table : PageMap) (space start n : ℕ) (ranges : AreRanges table) (sta
         record { inside = (inside.0, omega (arith, inside.1, span)); begins = isnt }
   ]
 
+  -- so each mapped page lies in exactly one range, as before
   pub ranges_without : AreRanges left
   ranges_without = record {
     covered = covered;

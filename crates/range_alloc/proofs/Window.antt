@@ -101,7 +101,7 @@ module _ (first table : PageMap) (space : ℕ) (perm : Perm) (start n : ℕ) (wi
           omega (arith, same, window.loads home, homes_more first.buckets home space start n)
 
   -- the first page leaves
-  pub window_left : (new : PageMap) → 0 < n → new ≡ without_entry table (space, start) → IsValid new → IsWindow first new space perm (start + 1) (n - 1)
+  window_left : (new : PageMap) → 0 < n → new ≡ without_entry table (space, start) → IsValid new → IsWindow first new space perm (start + 1) (n - 1)
   window_left new some is valid = record {
     buckets = ap (λ (t : PageMap). t.buckets) is ∙ window.buckets;
     from_valid = window.from_valid;
@@ -147,7 +147,7 @@ module _ (first table : PageMap) (space : ℕ) (perm : Perm) (start n : ℕ) (wi
           omega (arith, same, window.loads home, all, homes_first first.buckets home space start (n - 1))
 
   -- with no page it moves on by one
-  pub window_moved : n ≡ 0 → IsWindow first table space perm (start + 1) (n - 1)
+  window_moved : n ≡ 0 → IsWindow first table space perm (start + 1) (n - 1)
   window_moved none =
       let same : table ≡ first = window_is_first none in
       let zero_left : 0 ≡ n - 1 = omega arith in
