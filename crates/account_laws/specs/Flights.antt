@@ -7,7 +7,7 @@ use Rattle.flat_model.specs.Account.{Account}
 use Rattle.flat_model.specs.Client.{Sending, InFlight, flights}
 use Rattle.flat_model.specs.Clients.{standing_at, first_sent, request_of_part, ending, client_at}
 
--- it is a part of an issued call, was first sent so, and is not over
+-- the flight is of a part of an issued call, was first sent so, and is not over
 pub record FlightOf (a : Account) (c : ClientNo) (f : Sending) : Type 0 where
   pub stands : standing_at a c f.part ≡ InFlight f.orig f.first f.last
   pub request : request_of_part a c f.part ≡ Some f.request

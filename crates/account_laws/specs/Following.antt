@@ -9,11 +9,15 @@ use Rattle.cl_types.specs.declared.reply.Reply.{Reply}
 use Rattle.cl_types.specs.declared.schedule.Event.{Event}
 use Rattle.cl_types.specs.declared.schedule.Event.TheVariants as event
 use Rattle.flat_model.specs.Account.{Account, Frame, Load, Asks, Answers, nothing_yet, now, frame_at, is_live, taken_in_order}
-use Rattle.flat_model.specs.Client.{ClientState, Sending, same_client, poll, after_issue, after_poll, after_reply, flight_under, handed_out}
-use Rattle.flat_model.specs.Clients.{call_of, client_at}
+use Rattle.flat_model.specs.Client.{ClientState, Sending, new_client, same_client, poll, after_issue, after_poll, after_reply, flight_under, handed_out}
+use Rattle.flat_model.specs.Clients.{call_of, client_at, pid_of}
 use Rattle.flat_model.specs.Events.{account_from, next_account}
 use Rattle.flat_model.specs.Issue.{issue_fault}
 use Rattle.account_laws.specs.ClientLines.{Told, Fresh}
+
+-- before the first event a client that is read off the account is new
+abbrev pub ClientsBegin : Type 0
+ClientsBegin = (config : Config) (c : ClientNo) → client_at config nothing_yet c ≡ new_client c (pid_of config c)
 
 -- a call that was judged: taken where there is no fault
 abbrev pub after_judged : Option IssueFault → Call → ClientState → ClientState

@@ -13,7 +13,7 @@ pub record RunsAndShows (config : Config) (a : Account) : Type 0 where
   pub run : IsRun config.node a.history
   pub peeks : Peeks config a
 
--- in the account of every schedule with typed events and rising lines it is so
+-- the history of every account of rising lines and typed events is a run, and its peeks show it
 abbrev pub LawOfRuns : Type 0
 LawOfRuns =
     (config : Config) (events : List (ℕ × Event)) → IsRisingFrom 0 events → AreTyped events

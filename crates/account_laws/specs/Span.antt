@@ -54,12 +54,12 @@ IsInSpan n t i =
     is_changing i.request ≡ true
     → (r : Record) → record_named (name_of i) n.records ≡ Some r → t < r.moment + SPAN
 
--- so do all items of a frame, each with those before it
+-- all items of a frame are in the span, each judged after those before it
 abbrev pub AreInSpan : Node → ℕ → List Item → Type 0
 AreInSpan n t [] = Unit {0}
 AreInSpan n t (i ∷ is) = IsInSpan n t i × AreInSpan (ideal n t i).node t is
 
--- and all frames, by the records of the node that keeps all
+-- all frames are in the span, by the records of the node that keeps all
 abbrev pub KeepSpan : Node → List Given → Type 0
 KeepSpan n [] = Unit {0}
 KeepSpan n (g ∷ gs) =

@@ -3,9 +3,14 @@
 
 ghost use Rattle.account_laws.specs.ClientLines.{PollLaw, IssueLaw, ReplyLaw, QuietLaw};
 ghost use Rattle.account_laws.specs.Flights.{FlightLaw};
-ghost use Rattle.account_laws.specs.Following.{ClientsFollow, AccountsTell};
+ghost use Rattle.account_laws.specs.Following.{ClientsBegin, ClientsFollow, AccountsTell};
 ghost use Rattle.account_laws.specs.Junk.{LawOfJunkHeard};
 ghost use Rattle.account_laws.specs.Readiness.{ReadyLaw, ReadyInAccounts};
+
+/// Before the first event each client is new.
+pub fn clients_begin_new()
+    ensures { ClientsBegin }
+{}
 
 /// In the account of every list of events, each line leaves each client as its machine does: a call is judged and
 /// issued, a poll does what the machine's poll does, a live reply is heard, and all else leaves the client.
