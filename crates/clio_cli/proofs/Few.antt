@@ -1,19 +1,18 @@
 -- Each event raises each count by at most one.
-use Rattle.std.proofs.Common.{◌≡◌, ℕ, ◌+◌, ◌≤◌, List, [], ◌∷◌, Option, Some, None, refl, sym, subst, arith}
+use Rattle.std.proofs.Common.{ℕ, ◌+◌, List, [], ◌∷◌, Option, Some, None, refl, sym, subst, arith}
 use Rattle.cl_types.specs.declared.frame.IssueFault.{IssueFault}
 use Rattle.cl_types.specs.declared.schedule.Event.{Event}
 use Rattle.cl_types.specs.declared.schedule.Event.TheVariants as event
 use Rattle.cl_types.specs.declared.call.Call.{Call}
-use Rattle.cl_types.specs.declared.frame.Head.{Head}
 use Rattle.cl_types.specs.declared.line.Entry.{Entry}
 use Rattle.cl_types.specs.declared.reply.Reply.{Reply}
 use Rattle.flat_model.specs.Account.{Carried, Load, Asks, Answers}
-use Rattle.flat_model.specs.Client.{GivesUp, EndsFence, Sends, Idles, Polled, Sending, flight_under, handed_out, poll}
+use Rattle.flat_model.specs.Client.{GivesUp, EndsFence, Sends, Idles, Polled, Sending, flight_under, poll}
 use Rattle.flat_model.specs.Clients.{call_of}
 use Rattle.flat_model.specs.Handling.{Handling, Repeats, RefusesForNow, Executes, Looks}
 use Rattle.flat_model.specs.Issue.{issue_fault}
 use Rattle.account_laws.specs.Following.{after_judged}
-use Rattle.clio_cli.specs.Engine.{IsFew, View, answered_view, deliver_view, event_view, handed_view, handling_in, item_view, load_view, polled_view}
+use Rattle.clio_cli.specs.Engine.{IsFew, View, answered_view, deliver_view, event_view, handed_view, handling_in, item_view, polled_view}
 use Rattle.clio_cli.specs.Rows.{polled_of, state_of}
 use Rattle.clio_cli.specs.Stands.{SendsOne}
 use Rattle.clio_cli.specs.declared.client.Client.{Client}

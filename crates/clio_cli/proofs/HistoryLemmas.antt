@@ -1,10 +1,8 @@
 -- What is looked up in a history, and put into its place.
-use Rattle.std.proofs.Common.{◌≡◌, ℕ, zero, suc, ◌+◌, ◌-◌, ◌<◌, ◌≤◌, Bool, true, false, cond, List, [], ◌∷◌, ◌++◌, Option, Some, None, refl, sym, ap, ◌∙◌, length, filter, not, arith}
-use Rattle.std.specs.Prelude.{leb, nat_lt, ◌==◌, ◌&&◌, ◌||◌, find, is_some, option_and_then, option_map, position, slice_get, if◌then◌else◌}
+use Rattle.std.proofs.Common.{◌≡◌, ℕ, zero, suc, ◌+◌, ◌-◌, ◌<◌, ◌≤◌, Bool, true, false, cond, List, [], ◌∷◌, Some, None, refl, sym, ap, ◌∙◌, length, not, arith}
+use Rattle.std.specs.Prelude.{leb, nat_lt, ◌&&◌, find, is_some, option_and_then, position, slice_get, if◌then◌else◌}
 use Rattle.std.specs.List.{insert, position_or_len}
 use Rattle.std.proofs.lemmas.Bool.Decides.{nat_tests}
-use Rattle.std.proofs.lemmas.List.Sums.{prefix_len-le-length}
-use Rattle.std.proofs.lemmas.Option.{cond_some, slice_get_read}
 use Rattle.cl_types.specs.Requests.{is_changing}
 use Rattle.cl_types.specs.declared.line.Entry.{Entry}
 use Rattle.cl_types.specs.declared.numbers.ClientNo.{ClientNo}

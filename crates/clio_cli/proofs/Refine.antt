@@ -1,6 +1,6 @@
 -- Each event of a built kind leaves the engine where the account is.
-use Rattle.std.proofs.Common.{◌≡◌, ℕ, zero, suc, ◌+◌, ◌-◌, ◌*◌, ◌<◌, ◌≤◌, Bool, true, false, cond, List, [], ◌∷◌, ◌++◌, Option, Some, None, refl, sym, ap, subst, ◌∙◌, IsTrue, length, map, filter, not, arith, add-one, append-nil, append_assoc, length-append}
-use Rattle.std.specs.Prelude.{◌==◌, ◌&&◌, ◌||◌, nat_lt, leb, count_by, sum_by, option_map, slice_get, if◌then◌else◌}
+use Rattle.std.proofs.Common.{◌≡◌, ℕ, ◌+◌, ◌*◌, ◌<◌, ◌≤◌, Bool, true, false, cond, List, [], ◌∷◌, ◌++◌, Option, Some, None, refl, sym, ap, subst, ◌∙◌, length, map, filter, not, arith, add-one, append-nil, append_assoc, length-append}
+use Rattle.std.specs.Prelude.{◌&&◌, nat_lt, count_by, sum_by, option_map, slice_get, if◌then◌else◌}
 use Rattle.std.specs.List.{AllByRecursion as Each, list_any}
 use Rattle.std.proofs.lemmas.Bool.Decides.{nat_tests}
 use Rattle.std.proofs.lemmas.List.{length-map, map-append}
@@ -10,11 +10,9 @@ use Rattle.cl_types.specs.Requests.{is_changing}
 use Rattle.cl_types.specs.declared.call.Perm.{Perm}
 use Rattle.cl_types.specs.declared.config.Config.{Config}
 use Rattle.cl_types.specs.declared.frame.Head.{Head}
-use Rattle.cl_types.specs.declared.frame.How.{How}
 use Rattle.cl_types.specs.declared.frame.IssueFault.{IssueFault}
 use Rattle.cl_types.specs.declared.line.Did.{Did}
 use Rattle.cl_types.specs.declared.line.Did.TheVariants as did
-use Rattle.cl_types.specs.declared.line.EndedCall.{EndedCall}
 use Rattle.cl_types.specs.declared.line.Entry.{Entry}
 use Rattle.cl_types.specs.declared.line.EventLine.{EventLine}
 use Rattle.cl_types.specs.declared.numbers.Addr.{Addr}
@@ -25,17 +23,17 @@ use Rattle.cl_types.specs.declared.request.Request.TheVariants as request
 use Rattle.cl_types.specs.declared.schedule.CallText.{CallText}
 use Rattle.cl_types.specs.declared.schedule.Event.{Event}
 use Rattle.cl_types.specs.declared.schedule.Event.TheVariants as event
-use Rattle.flat_model.specs.Account.{Account, Carried, Effect, Frame, Line, Load, Asks, Answers, asks_next, found_none, frame_at, is_before, is_live, memory_at, next_frame_number, now, nothing_yet, recorded, says, taken_in_order, ticks_of, with_entry, with_entries}
-use Rattle.flat_model.specs.Client.{ClientState, GivesUp, EndsFence, Sends, Idles, Polled, Outgoing, Sending, after_poll, after_reply, end_told, flight_under, handed_out, poll, same_client}
+use Rattle.flat_model.specs.Account.{Account, Carried, Effect, Frame, Line, Load, Asks, Answers, asks_next, found_none, frame_at, is_before, is_live, memory_at, now, nothing_yet, recorded, says, taken_in_order, ticks_of, with_entry, with_entries}
+use Rattle.flat_model.specs.Client.{ClientState, GivesUp, EndsFence, Sends, Idles, Polled, Outgoing, Sending, after_poll, flight_under, handed_out, poll, same_client}
 use Rattle.flat_model.specs.Clients.{call_of, client_at}
 use Rattle.flat_model.specs.Events.{account_from, carried, effect, entry_of, handed, handled, if_live, if_there, item_handling, keep_all, next_account, nothing_happens, on_delivery, on_flight, on_found_page, on_frame, on_judged, on_polled, on_reply, record_of, request_frame_of, then_also}
 use Rattle.flat_model.specs.Handling.{Handling, Repeats, RefusesForNow, Executes, Looks, handling, if_young, is_young, oldest_of}
 use Rattle.flat_model.specs.Issue.{issue_fault}
 use Rattle.flat_model.specs.Pages.{page_of}
-use Rattle.flat_model.specs.Run.{after, after_entry, changing_of}
-use Rattle.flat_model.specs.State.{FlatState, Page, fits, least, opening, page_at, places}
+use Rattle.flat_model.specs.Run.{after, changing_of}
+use Rattle.flat_model.specs.State.{FlatState, Page, least, opening, page_at, places}
 use Rattle.flat_model.specs.Step.{alloc_at, alloc_after, mapped, outcome, state_after}
-use Rattle.flat_model.proofs.RunLemmas.{after-append, reading_keeps}
+use Rattle.flat_model.proofs.RunLemmas.{after-append}
 use Rattle.account_laws.specs.Following.{after_delivered, after_event, after_frame, after_heard, after_judged, after_load}
 use Rattle.account_laws.proofs.Following.{clients_follow}
 use Rattle.account_laws.proofs.Insert.{all_before, with_last}

@@ -1,5 +1,5 @@
 -- The loop over the events of a schedule, and the whole transcript.
-use Rattle.std.proofs.Common.{◌≡◌, ℕ, zero, suc, ◌+◌, ◌-◌, ◌<◌, ◌≤◌, Bool, true, false, List, [], ◌∷◌, ◌++◌, Option, Some, None, refl, sym, ap, subst, ◌∙◌, length, get_or, arith, append-nil, append_assoc, length-append}
+use Rattle.std.proofs.Common.{◌≡◌, ℕ, ◌+◌, ◌-◌, ◌<◌, ◌≤◌, Bool, true, false, List, [], ◌∷◌, ◌++◌, Option, Some, None, refl, sym, ap, subst, ◌∙◌, length, get_or, arith, append-nil, append_assoc, length-append}
 use Rattle.std.specs.Prelude.{◌==◌, ◌&&◌, ◌^◌, codes, decimal, flat_map, slice_get}
 use Rattle.std.specs.List.{AllByRecursion as Each, list_all}
 use Rattle.std.proofs.lemmas.Bool.Decides.{nat_tests}
@@ -10,7 +10,7 @@ use Rattle.cl_types.specs.declared.line.Entry.{Entry}
 use Rattle.cl_types.specs.declared.numbers.ClientNo.{ClientNo}
 use Rattle.cl_types.specs.declared.schedule.Event.{Event}
 use Rattle.cl_types.specs.declared.schedule.Schedule.{Schedule}
-use Rattle.flat_model.specs.Account.{Account, Effect, Line, Load, now, nothing_yet}
+use Rattle.flat_model.specs.Account.{Account, Effect, Line, now, nothing_yet}
 use Rattle.flat_model.specs.Client.{new_client, poll, same_client}
 use Rattle.flat_model.specs.Clients.{pid_of}
 use Rattle.flat_model.specs.Events.{account, account_from, effect, keep_all, next_account}
@@ -22,7 +22,7 @@ use Rattle.account_laws.proofs.Lists.{each_weaker}
 use Rattle.clio_cli.specs.Built.{is_built_schedule, is_built_with}
 use Rattle.clio_cli.specs.Engine.{IsFew, View, event_line, event_view, is_built_event, opening_view}
 use Rattle.clio_cli.specs.Replay.{After, event_text}
-use Rattle.clio_cli.specs.Stands.{IsGoodLoad, IsLook, SendsOne, Stands, Tells}
+use Rattle.clio_cli.specs.Stands.{SendsOne, Stands, Tells}
 use Rattle.clio_cli.proofs.Few.{few_next}
 use Rattle.clio_cli.proofs.Refine.{event_refines, later_good}
 

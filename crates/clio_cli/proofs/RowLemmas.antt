@@ -1,7 +1,7 @@
 -- What rows stand for, against the client's machine.
-use Rattle.std.proofs.Common.{◌≡◌, ℕ, zero, suc, ◌+◌, ◌-◌, ◌<◌, ◌≤◌, Bool, true, false, cond, List, [], ◌∷◌, ◌++◌, Option, Some, None, refl, sym, ap, ◌∙◌, IsTrue, length, map, filter, not, take, drop, set, get_or, arith, add-one, append-nil}
+use Rattle.std.proofs.Common.{◌≡◌, ℕ, zero, suc, ◌+◌, ◌-◌, ◌<◌, ◌≤◌, Bool, true, false, cond, List, [], ◌∷◌, ◌++◌, Option, Some, None, refl, sym, ap, ◌∙◌, length, map, filter, not, take, drop, set, get_or, arith, add-one, append-nil}
 use Rattle.std.specs.Prelude.{leb, nat_lt, ◌==◌, ◌&&◌, find, is_none, is_some, option_map, slice_get, position, option_and_then, unwrap_or, if◌then◌else◌}
-use Rattle.std.specs.List.{list_all, cons_option, filter_map, flat_map, position_or_len}
+use Rattle.std.specs.List.{list_all, cons_option, filter_map, position_or_len}
 use Rattle.std.proofs.Math.Seq.{take-append_seam}
 use Rattle.std.proofs.lemmas.Bool.Decides.{nat_tests}
 use Rattle.std.proofs.lemmas.List.Folds.{find_at}
@@ -15,8 +15,8 @@ use Rattle.cl_types.specs.declared.reply.Reply.TheVariants as reply
 use Rattle.cl_types.specs.declared.reply.Value.TheVariants as value
 use Rattle.account_laws.specs.Following.{after_heard}
 use Rattle.flat_model.specs.Cut.{Replied}
-use Rattle.flat_model.specs.Client.{Finished, answered, after_poll, after_reply, call_changed, end_told, finished, finished_with, flight_under, gone_out, handed_out, told, ClientCall, ClientPart, ClientState, Sending, Polled, GivesUp, Sends, Idles, Standing, again, first_some, flight, flights, is_unsent, parts_of, prints, is_old, is_due, poll, fence_first, to_give_up, to_send_again, to_send, sendable, ready, next_id, anew}
-use Rattle.cl_types.specs.declared.limits.TheConstants.{PARTS_IN_FLIGHT, SPAN, TIMEOUT}
+use Rattle.flat_model.specs.Client.{Finished, answered, after_poll, after_reply, call_changed, end_told, finished, finished_with, flight_under, gone_out, handed_out, told, ClientCall, ClientPart, Sending, GivesUp, Sends, Idles, Standing, again, first_some, flight, flights, is_unsent, parts_of, prints, is_old, is_due, poll, fence_first, to_give_up, to_send_again, to_send, anew}
+use Rattle.cl_types.specs.declared.limits.TheConstants.{PARTS_IN_FLIGHT, TIMEOUT}
 use Rattle.cl_types.specs.declared.numbers.ClientNo.{ClientNo}
 use Rattle.clio_cli.specs.Asks.{call_for, request_of}
 use Rattle.clio_cli.specs.Rows.{after_sent, call_of_row, can_be_sent, ended_by, holds_back, is_numbered, is_under, may_go_among, next_row, only_part, outgoing_of, polled_of, sent_as, sent_row, standing_of, state_of, state_with, was_sent, without}

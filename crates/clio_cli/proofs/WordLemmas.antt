@@ -1,9 +1,9 @@
 -- Which words are a built command.
-use Rattle.std.proofs.Common.{◌≡◌, ◌≤◌, ℕ, Bool, true, false, List, [], ◌∷◌, Option, Some, None, Ok, Err, refl, ap, ◌∙◌, length, arith}
+use Rattle.std.proofs.Common.{◌≡◌, ◌≤◌, Bool, true, false, List, [], ◌∷◌, Option, Some, None, Ok, Err, refl, length, arith}
 use Rattle.std.specs.Prelude.{Result, bytes_eq, codes, nat_lt, if◌then◌else◌}
 use Rattle.std.proofs.lemmas.Bool.Decides.{nat_tests}
 use Rattle.cl_types.specs.declared.schedule.What.{What}
-use Rattle.flat_model.specs.Commands.{Command, CommandForm, Replay, Check, client_command, command_in, counts, in_form, made, node_command, plain, storm_command}
+use Rattle.flat_model.specs.Commands.{Command, Replay, Check, client_command, command_in, counts, in_form, made, node_command, plain, storm_command}
 use Rattle.flat_model.specs.Grammar.{u16, u64}
 use Rattle.flat_model.specs.Text.{Text}
 use Rattle.flat_model.specs.Words.{Number, Value, N, arguments_in}

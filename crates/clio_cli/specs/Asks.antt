@@ -1,5 +1,5 @@
 -- What a call of one part asks of the node.
-use Rattle.std.specs.Prelude.{ℕ, ◌+◌, ◌<◌, ◌≤◌, Bool, true, false, List, [], ◌∷◌, length, Option, Some, None}
+use Rattle.std.specs.Prelude.{ℕ, ◌+◌, ◌<◌, ◌≤◌, length, Option, Some, None}
 use Rattle.cl_types.specs.Bytes.{zeros}
 use Rattle.cl_types.specs.declared.call.Call.{Call}
 use Rattle.cl_types.specs.declared.call.Call.TheVariants as call

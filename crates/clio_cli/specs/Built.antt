@@ -1,5 +1,5 @@
 -- The schedules that are built.
-use Rattle.std.specs.Prelude.{ℕ, ◌==◌, Bool, true, false, ◌&&◌, List, [], ◌∷◌, length}
+use Rattle.std.specs.Prelude.{ℕ, ◌==◌, Bool, false, ◌&&◌, List, [], ◌∷◌, length}
 use Rattle.std.specs.List.{list_all}
 use Rattle.cl_types.specs.declared.numbers.ClientNo.{ClientNo}
 use Rattle.cl_types.specs.declared.schedule.Event.{Event}

@@ -1,6 +1,5 @@
 -- A client's calls as rows, and the state that they stand for. Every moment is 0.
-use Rattle.std.specs.Prelude.{ℕ, ◌+◌, ◌==◌, Bool, true, false, ◌&&◌, not, List, [], ◌∷◌, nat_lt, length, map, filter, is_some, find, option_map, Option, Some, None, if◌then◌else◌, is_none}
-use Rattle.cl_types.specs.declared.call.Call.{Call}
+use Rattle.std.specs.Prelude.{ℕ, ◌+◌, ◌==◌, Bool, false, ◌&&◌, not, List, [], ◌∷◌, nat_lt, length, map, filter, is_some, find, Option, Some, None, if◌then◌else◌, is_none}
 use Rattle.cl_types.specs.declared.limits.TheConstants.{PARTS_IN_FLIGHT}
 use Rattle.cl_types.specs.declared.line.EndedCall.{EndedCall}
 use Rattle.cl_types.specs.declared.numbers.CallNo.{CallNo}
@@ -11,7 +10,7 @@ use Rattle.cl_types.specs.declared.reply.Part.{Part}
 use Rattle.cl_types.specs.declared.reply.Reply.{Reply}
 use Rattle.cl_types.specs.declared.reply.Reply.TheVariants as reply
 use Rattle.cl_types.specs.declared.reply.Value.TheVariants as value
-use Rattle.flat_model.specs.Client.{ClientState, ClientCall, ClientPart, Standing, Unsent, InFlight, Polled, Sends, Idles, prints}
+use Rattle.flat_model.specs.Client.{ClientState, ClientCall, Standing, Unsent, InFlight, Polled, Sends, Idles, prints}
 use Rattle.flat_model.specs.Order.{footprint, may_go, waits_for}
 use Rattle.clio_cli.specs.Asks.{call_for, request_of}
 use Rattle.clio_cli.specs.declared.ask.Ask.{Ask}

@@ -1,5 +1,5 @@
 -- What the program does, as its source and its sink show it.
-use Rattle.std.specs.Prelude.{◌≡◌, ◌⊎◌, ℕ, ◌<◌, true, false, List, [], ◌++◌, length, Ok, Err, Some, None, IfSome, IsTrue, codes}
+use Rattle.std.specs.Prelude.{◌≡◌, ◌⊎◌, ℕ, ◌<◌, false, List, [], ◌++◌, length, Ok, Err, Some, None, IfSome, IsTrue, codes}
 use Rattle.std.specs.declared.option.Option.{Option}
 use Rattle.cl_outside.specs.Counts.{Rose}
 use Rattle.cl_outside.specs.Loops.{WroteFront}

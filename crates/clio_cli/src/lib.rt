@@ -1,4 +1,11 @@
-//! The commands of the program, from the bytes of a source to the bytes of a sink.
+//! The commands of the program, from the bytes of a source to the bytes of a sink. `replay` is built.
+//!
+//! A contract sees words as the list of their bytes, and of source and sink what is left, what was written, and their
+//! counts of faults. `run` answers the number of a status, and `specs/Run.antt` says of each status what was read and
+//! what was written.
+//!
+//! The engine behind it handles one client and calls of one part, at moment 0, and is to give way to the node, the
+//! client and the link. `built.rt` alone says which lines it handles; the text `line N: not built` is in no clause.
 #![tactic(auto)]
 
 mod ask;
@@ -12,6 +19,8 @@ mod laws;
 mod link;
 mod replay;
 mod status;
+#[cfg(test)]
+mod tests;
 mod top;
 mod words;
 

@@ -1,4 +1,4 @@
-use Rattle.std.proofs.Common.{None, ap, ◌≡◌, sym}
+use Rattle.std.proofs.Common.{ap}
 use Rattle.std.specs.Prelude.{option_map}
 use Rattle.clio_cli.specs.Rows.{ended_by}
 use Rattle.clio_cli.proofs.RowLemmas.{made_of_found}

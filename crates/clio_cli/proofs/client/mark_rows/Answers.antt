@@ -1,6 +1,5 @@
 use Rattle.std.proofs.Common.{ap, get_or}
 use Rattle.clio_cli.specs.Rows.{sent_row}
-use Rattle.clio_cli.specs.declared.client.Row.{Row}
 use Rattle.clio_cli.proofs.RowLemmas.{changed_next}
 use Rattle.clio_cli.proofs.client.mark_rows.Goals as goal
 

@@ -4,7 +4,7 @@ use Rattle.cl_types.specs.declared.line.Entry.{Entry}
 use Rattle.flat_model.specs.Text.{line_of}
 use Rattle.flat_model.specs.Texts.{entry_text}
 use Rattle.clio_cli.specs.Engine.{view_of}
-use Rattle.clio_cli.proofs.ReplayLemmas.{after_first, some_client, whole_transcript}
+use Rattle.clio_cli.proofs.ReplayLemmas.{after_first, whole_transcript}
 use Rattle.clio_cli.proofs.replay.transcript_of.Goals as goal
 
 pub print_events-requires : goal.print_events-requires
