@@ -31,10 +31,11 @@ pub record IsInput (bytes : List ℕ) (before after : Option (List ℕ)) : Type 
   pub whole : IfSome before (λ left. bytes ≡ left)
   pub ended : IfSome after (λ left. left ≡ [])
 
--- the text of too many lines, and that of too many bytes
+-- the text of too many lines
 abbrev pub lines_text : Text
 lines_text = codes "too long: lines 200001" ++ line_end
 
+-- the text of too many bytes
 abbrev pub bytes_text : Text
 bytes_text = codes "too long: bytes 16777217" ++ line_end
 

@@ -116,8 +116,8 @@ fn own_fault_of(call: &CallText) -> Option<IssueFault>
     }
 }
 
-#[tactic(auto, using(crate::proofs::CallLemmas::length_written))]
 /// How many bytes stand written, as far as 64 bits tell it.
+#[tactic(auto, using(crate::proofs::CallLemmas::length_written))]
 pub fn written_len(written: &Written) -> usize
     ensures { result ≡ min (length (expanded written.now)) (2 ^ 64 - 1) }
 {
@@ -164,7 +164,7 @@ fn ask_of(alloc: Global, call: &CallText) -> Result<Ask, NoMemory>
         CallText::Free { .. }
         | CallText::Atomic { .. }
         | CallText::Offload { .. }
-        | CallText::Fence => Err(NoMemory),
+        | CallText::Fence => unreachable!(),
     }
 }
 
