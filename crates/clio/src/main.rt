@@ -3,24 +3,35 @@
 
 use cl_outside::{StdSink, StdSource};
 use clio_cli::{Words, run};
+use std::io::ErrorKind;
 use std::process::ExitCode;
 use std::{env, io};
 
-// The words of the command line. A word that is no text is an empty one, which no command has.
-fn words(rt: &HostRuntime) -> io::Result<Words> {
+// The arguments behind the program's name. Where one is no text there is one empty word, which is no command.
+fn arguments(rt: &HostRuntime) -> io::Result<Words> {
     let mut words = Words::create(rt.alloc());
-    let mut args = env::args(rt)?;
-    let _program = args.next();
-    for word in args {
-        if words.push(word.as_str()).is_err() {
-            return Err(io::Error::from(io::ErrorKind::OutOfMemory));
+    match env::args(rt) {
+        Ok(mut args) => {
+            let _program = args.next();
+            for word in args {
+                push(&mut words, word.as_str())?;
+            }
         }
+        Err(error) if error.kind() == ErrorKind::InvalidData => push(&mut words, "")?,
+        Err(error) => return Err(error),
     }
     Ok(words)
 }
 
+// Appends a word.
+fn push(words: &mut Words, word: &str) -> io::Result<()> {
+    words
+        .push(word)
+        .map_err(|_| io::Error::from(ErrorKind::OutOfMemory))
+}
+
 fn main(rt: HostRuntime) -> ExitCode {
-    let Ok(words) = words(&rt) else {
+    let Ok(words) = arguments(&rt) else {
         return ExitCode::from(5);
     };
     let mut source = StdSource::create(rt.reader());
