@@ -9,9 +9,9 @@
 //! memory. That `look` walks one chain of names, and that `room`, `note` and `retained` take no longer the more records
 //! there are, can be seen in the code, and no clause says it.
 //!
-//! A known limit: the chain of a name comes of a hash that anyone can compute. Of 65,536 records the longest chain has
-//! 2 where one client's ids rise, 5 where those of 64 clients do, and all 65,536 where a client chooses its ids for
-//! that, so that each `look` walks through all of them. Tests count all three.
+//! A known limit: the chain of a name comes of a hash that anyone can compute. Of 65,536 records of one kind the
+//! longest chain has 2 where one client's ids are 1, 2, 3 and so on, 5 where those of 64 clients are, and all 65,536
+//! where a client chooses its ids for that, so that each `look` walks through all of them. Tests count all three.
 #![tactic(auto)]
 
 mod chain;

@@ -9,8 +9,8 @@
 //!
 //! `None` says that the cache has no entry, and nothing of the page. That the entries are those of
 //! the page table is its caller's to keep. The entries lie in a hashed table and a linked list, of
-//! the crate `lru`, so that no call takes longer the more there are. No clause says so, nor that a
-//! new page is noted where there is memory.
+//! the crate `lru`, so that no call takes longer the more there are, but for pages chosen against
+//! its hash. No clause says so, nor that a new page is noted where there is memory.
 #![tactic(auto)]
 
 mod cache;
