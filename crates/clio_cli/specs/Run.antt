@@ -12,6 +12,7 @@ use Rattle.flat_model.specs.Opening.{open_fault}
 use Rattle.flat_model.specs.Text.{Text, line_end, lines_in}
 use Rattle.flat_model.specs.Texts.{fault_line, open_fault_line, transcript}
 use Rattle.flat_model.specs.declared.open_fault.OpenFault.{OpenFault}
+use Rattle.schedule_text.specs.Reading.{too_long_of}
 use Rattle.schedule_text.specs.declared.fault.TheConstants.{MOST_LINES}
 use Rattle.clio_cli.specs.Built.{is_built_schedule}
 use Rattle.clio_cli.specs.Status.{number_of}
@@ -43,16 +44,19 @@ bytes_text = codes "too long: bytes 16777217" ++ line_end
 abbrev pub Judges : List ℕ → Text → Status → Type 0
 -- a schedule whose node opens: its transcript
 Judges bytes text status.Ok =
-    (s : Schedule) × (schedule_of bytes ≡ Ok s) × (open_fault s.config.node ≡ None) × (text ≡ transcript s)
+    (too_long_of bytes ≡ None)
+    × (s : Schedule) × (schedule_of bytes ≡ Ok s) × IsTrue (is_built_schedule s) × (open_fault s.config.node ≡ None) × (text ≡ transcript s)
 -- no schedule: its first bad line; or one with a line that is not built
 Judges bytes text status.BadInput =
-    ((fault : Fault) × (schedule_of bytes ≡ Err fault) × (text ≡ fault_line fault))
-    ⊎ ((s : Schedule) × (schedule_of bytes ≡ Ok s) × (is_built_schedule s ≡ false))
+    (too_long_of bytes ≡ None)
+    × (((fault : Fault) × (schedule_of bytes ≡ Err fault) × (text ≡ fault_line fault))
+    ⊎ ((s : Schedule) × (schedule_of bytes ≡ Ok s) × (is_built_schedule s ≡ false)))
 -- too many lines
 Judges bytes text status.TooLong = (MOST_LINES < length (lines_in bytes)) × (text ≡ lines_text)
 -- a schedule whose node doesn't open: why
 Judges bytes text status.BadNode =
-    (s : Schedule) × (fault : OpenFault) × (schedule_of bytes ≡ Ok s) × (open_fault s.config.node ≡ Some fault) × (text ≡ open_fault_line fault)
+    (too_long_of bytes ≡ None)
+    × (s : Schedule) × (fault : OpenFault) × (schedule_of bytes ≡ Ok s) × IsTrue (is_built_schedule s) × (open_fault s.config.node ≡ Some fault) × (text ≡ open_fault_line fault)
 -- no other status is judged by the bytes
 Judges bytes text other = ⊥
 
@@ -65,13 +69,15 @@ Replays before after text status = (bytes : List ℕ) × IsInput bytes before af
 
 -- the same of a command line
 abbrev pub Wants : List Text → Option (List ℕ) → Option (List ℕ) → Text → Status → Type 0
-Wants words before after text status.BadWords = (is_built_command (command_in words) ≡ false) × (text ≡ codes "bad words" ++ line_end)
+Wants words before after text status.BadWords =
+    (is_built_command (command_in words) ≡ false) × (after ≡ before) × (text ≡ codes "bad words" ++ line_end)
 Wants words before after text status = IsTrue (is_built_command (command_in words)) × Replays before after text status
 
 -- with which status the program ends
 abbrev pub Ends : List Text → Outside → Outside → Status → Type 0
--- a read failed, and nothing was written
-Ends words before after status.ReadFault = Rose before.read_faults after.read_faults × (after.written ≡ before.written)
+-- the words are a command, a read failed, and nothing was written
+Ends words before after status.ReadFault =
+    IsTrue (is_built_command (command_in words)) × Rose before.read_faults after.read_faults × (after.written ≡ before.written)
 -- a write failed, and a front of what was to be written was
 Ends words before after status.WriteFault =
     Rose before.write_faults after.write_faults

@@ -224,6 +224,7 @@ impl OnePart {
         ensures reply { IfOk result (λ reply. reply ≡ (outcome flat.old pid (request_of self.now)).reply) }
         ensures state { OnOk result (flat.new ≡ (outcome flat.old pid (request_of self.now)).state) }
     {
+        // Opens the part: that what it asks is one part is known.
         let _ = &self.ask;
         let reply = self.reply_from(alloc, flat, pid)?;
         Ok(PartReply { reply })

@@ -322,7 +322,13 @@ impl Engine {
             Event::Poll { .. } => Ok(alone(self.poll(alloc)?)),
             Event::DeliverNext => self.deliver(alloc, line),
             Event::Peek { pid, addr, len } => Ok(alone(self.peek(alloc, *pid, *addr, *len)?)),
-            _ => Ok(alone(Did::Idle)),
+            Event::Deliver { .. }
+            | Event::Drop
+            | Event::Tick { .. }
+            | Event::Show { .. }
+            | Event::Stat
+            | Event::GarbageNode { .. }
+            | Event::GarbageClient { .. } => unreachable!(),
         }
     }
 }

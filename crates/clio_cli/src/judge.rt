@@ -5,6 +5,7 @@ ghost use Rattle.cl_outside.specs.declared.loops.TheConstants.{INPUT_LIMIT};
 ghost use Rattle.flat_model.specs.Grammar.{schedule_of};
 ghost use Rattle.flat_model.specs.Opening.{open_fault};
 ghost use Rattle.flat_model.specs.State.{opening};
+ghost use Rattle.schedule_text.specs.Reading.{too_long_of};
 ghost use Rattle.clio_cli.specs.Built.{is_built_schedule};
 ghost use Rattle.clio_cli.specs.Run.{Judges, lines_text};
 
@@ -40,7 +41,8 @@ pub fn output_of(alloc: Global, text: &[u8], status: Status) -> Result<Output, N
 
 // For a bad line.
 fn bad_line(alloc: Global, bytes: &[u8], number: u32, what: What) -> Result<Output, NoMemory>
-    requires { schedule_of bytes.now ≡ Err (number, what) }
+    requires short { too_long_of bytes.now ≡ None }
+    requires bad { schedule_of bytes.now ≡ Err (number, what) }
     ensures { IfOk result (λ output. Judges bytes.now output.text output.status) }
 {
     let text = line_fault(alloc, number, what)?;
@@ -49,6 +51,7 @@ fn bad_line(alloc: Global, bytes: &[u8], number: u32, what: What) -> Result<Outp
 
 // For a schedule with a line that is not built.
 fn not_built(alloc: Global, bytes: &[u8], schedule: &Schedule) -> Result<Output, NoMemory>
+    requires short { too_long_of bytes.now ≡ None }
     requires read { schedule_of bytes.now ≡ Ok schedule.now }
     requires unbuilt { is_built_schedule schedule.now ≡ false }
     ensures { IfOk result (λ output. Judges bytes.now output.text output.status) }
@@ -64,7 +67,9 @@ fn bad_node(
     schedule: &Schedule,
     fault: OpenFault,
 ) -> Result<Output, NoMemory>
+    requires short { too_long_of bytes.now ≡ None }
     requires read { schedule_of bytes.now ≡ Ok schedule.now }
+    requires built { IsTrue (is_built_schedule schedule.now) }
     requires fault { open_fault schedule.now.config.node ≡ Some fault }
     ensures { IfOk result (λ output. Judges bytes.now output.text output.status) }
 {
@@ -74,6 +79,7 @@ fn bad_node(
 
 // For a node that opens.
 fn opened(alloc: Global, bytes: &[u8], schedule: &Schedule, flat: Flat) -> Result<Output, NoMemory>
+    requires short { too_long_of bytes.now ≡ None }
     requires read { schedule_of bytes.now ≡ Ok schedule.now }
     requires built { IsTrue (is_built_schedule schedule.now) }
     requires opens { open_fault schedule.now.config.node ≡ None }
@@ -101,7 +107,8 @@ fn open(alloc: Global, config: &NodeConfig) -> Result<Result<Flat, OpenFault>, N
 
 // For a schedule.
 fn judge_schedule(alloc: Global, bytes: &[u8], schedule: &Schedule) -> Result<Output, NoMemory>
-    requires { schedule_of bytes.now ≡ Ok schedule.now }
+    requires short { too_long_of bytes.now ≡ None }
+    requires read { schedule_of bytes.now ≡ Ok schedule.now }
     ensures { IfOk result (λ output. Judges bytes.now output.text output.status) }
 {
     if !is_built(schedule) {

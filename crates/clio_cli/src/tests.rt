@@ -44,3 +44,29 @@ fn answers_each_input_with_its_text_and_status(rt: HostRuntime) -> Result<(), Fa
     }
     Ok(())
 }
+
+#[test]
+fn failed_calls_and_too_many_lines_have_their_statuses(rt: HostRuntime) -> Result<(), Fail> {
+    let alloc = rt.alloc();
+    let mut words = Words::create(alloc);
+    assert!(rt; words.push("replay").is_ok());
+    let mut lines = Vec::with_capacity(alloc, 200_001)?;
+    for _ in 0..200_001 {
+        lines.push(b'\n')?;
+    }
+    // The first call on the source, or on the sink, fails where the list has 1.
+    let cases: [(&[u8], &[u64], &[u64], &[u8], u8); 3] = [
+        (PATH, &[1], &[], b"", 3),
+        (PATH, &[], &[1], b"", 4),
+        (lines.as_slice(), &[], &[], b"too long: lines 200001\n", 8),
+    ];
+    for (input, reads, writes, want, status) in cases {
+        let reads = Vec::from_slice(alloc, reads)?;
+        let mut source = MemorySource::create(Vec::from_slice(alloc, input)?, reads);
+        let mut sink = MemorySink::create(alloc, Vec::from_slice(alloc, writes)?);
+        let ended = run(alloc, &words, &mut source, &mut sink);
+        assert_eq!(rt; ended, status, "{status}");
+        assert_eq!(rt; sink.bytes(), want, "{status}");
+    }
+    Ok(())
+}

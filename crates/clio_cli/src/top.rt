@@ -75,7 +75,7 @@ fn serve<S: Source, K: Sink>(alloc: Global, words: &Words, source: &mut S, sink:
 
 /// Serves a command line, and answers the status with which the program is to end.
 pub fn run<S: Source, K: Sink>(alloc: Global, words: &Words, source: &mut S, sink: &mut K) -> u8
-    ensures { EndsWith words.now
+    ensures ends { EndsWith words.now
         (record { left = S.left source.old; read_faults = S.faults source.old; written = K.written sink.old; write_faults = K.faults sink.old })
         (record { left = S.left source.new; read_faults = S.faults source.new; written = K.written sink.new; write_faults = K.faults sink.new })
         result }
