@@ -32,6 +32,7 @@ pub mod Settled
 pub mod OrderKept
 pub mod Window
 pub mod WindowKept
+pub mod NodeLines
 pub mod StandsKept
 pub mod SpanKept
 pub mod Pieces

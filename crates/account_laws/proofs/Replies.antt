@@ -14,7 +14,7 @@ use Rattle.account_laws.proofs.SameParts.{and_left}
 use Rattle.flat_model.proofs.LeastLemmas.{least_start_is_the_least, none_is_nowhere}
 
 -- ---- an Alloc
-page_of_start : (x : ℕ) → page_of (record { 0 = x * PAGE_BYTES }) ≡ x
+pub page_of_start : (x : ℕ) → page_of (record { 0 = x * PAGE_BYTES }) ≡ x
 page_of_start x = omega arith
 
 offset_of_start : (x : ℕ) → offset_of (record { 0 = x * PAGE_BYTES }) ≡ 0

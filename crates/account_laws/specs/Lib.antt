@@ -2,6 +2,7 @@ pub mod ClientLines
 pub mod Readiness
 pub mod Flights
 pub mod Following
+pub mod NodeLines
 pub mod Schedules
 pub mod Times
 pub mod Runs

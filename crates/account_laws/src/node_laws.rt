@@ -2,6 +2,7 @@
 
 ghost use Rattle.account_laws.specs.Junk.{LawOfJunk};
 ghost use Rattle.account_laws.specs.Locks.{LawOfLocks};
+ghost use Rattle.account_laws.specs.NodeLines.{NodesFollow};
 ghost use Rattle.account_laws.specs.Span.{LawOfSpan};
 
 /// Where no changing request comes as long as the span after it was recorded, a node that keeps the latest replies
@@ -20,4 +21,12 @@ pub fn law_of_locks()
 /// and so is the node after them, whichever records the node keeps.
 pub fn law_of_junk()
     ensures { LawOfJunk }
+{}
+
+// ---- the node of an account
+
+/// In the account of every schedule, each line leaves the node as its machine does: a live request frame is a step of
+/// the node that keeps the latest replies, and brings the texts, frames and entries of what it says; all else leaves it.
+pub fn node_follows_its_machine()
+    ensures { NodesFollow }
 {}
