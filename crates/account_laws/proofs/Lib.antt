@@ -33,6 +33,7 @@ pub mod OrderKept
 pub mod Window
 pub mod WindowKept
 pub mod NodeLines
+pub mod ReadSchedules
 pub mod StandsKept
 pub mod SpanKept
 pub mod Pieces

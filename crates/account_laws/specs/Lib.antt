@@ -4,6 +4,7 @@ pub mod Flights
 pub mod Following
 pub mod NodeLines
 pub mod Schedules
+pub mod ReadSchedules
 pub mod Times
 pub mod Runs
 pub mod Histories

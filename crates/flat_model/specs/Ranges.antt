@@ -39,8 +39,8 @@ is_typed_call (text.Atomic addr op) = nat_lt addr.0 (2 ^ 32) && has_words op
 is_typed_call (text.Offload number op out bytes) = nat_lt number 256 && nat_lt op 256 && nat_lt out (2 ^ 32) && are_bytes bytes.bytes
 is_typed_call text.Fence = true
 
--- The premise of the laws of the account: the calls of a schedule have numbers of their types. No law says yet
--- that what is read from a text has them.
+-- The premise of the laws of the account: the calls of a schedule have numbers of their types. Every
+-- schedule that is read from bytes has them, by a law.
 abbrev pub is_typed : Event → Bool
 is_typed (event.Call client call) = is_typed_call call
 is_typed other = true

@@ -1,0 +1,40 @@
+-- What holds of every schedule that was read from bytes.
+use Rattle.std.specs.Prelude.{ℕ, ◌^◌, ◌<◌, ◌≤◌, ◌≡◌, ◌==◌, Bool, true, List, Ok}
+use Rattle.std.specs.List.{AllByRecursion as Each, list_any}
+use Rattle.cl_types.specs.declared.numbers.ClientNo.{ClientNo}
+use Rattle.cl_types.specs.declared.numbers.TheConstants.{LAST_PID}
+use Rattle.cl_types.specs.declared.schedule.Event.{Event}
+use Rattle.cl_types.specs.declared.schedule.Event.TheVariants as event
+use Rattle.cl_types.specs.declared.schedule.Schedule.{Schedule}
+use Rattle.flat_model.specs.Grammar.{schedule_of}
+use Rattle.account_laws.specs.Schedules.{IsRisingFrom, AreTyped}
+
+-- one of the clients has this number
+abbrev pub has_client : List (ClientNo × ℕ) → ClientNo → Bool
+has_client clients c = list_any (λ given. given.0.0 == c.0) clients
+
+-- the client that the event names, where it names one, is one of these
+abbrev pub is_of_clients : List (ClientNo × ℕ) → Event → Bool
+is_of_clients clients (event.Call client call) = has_client clients client
+is_of_clients clients (event.Poll client) = has_client clients client
+is_of_clients clients (event.GarbageClient client bytes) = has_client clients client
+is_of_clients clients other = true
+
+-- the numbers of a client and of its process are such as a frame's head can carry
+pub record IsClient (given : ClientNo × ℕ) : Type 0 where
+  pub number : given.0.0 < 2 ^ 16
+  pub process : (1 ≤ given.1) × (given.1 ≤ LAST_PID)
+
+-- what the laws of the account, and those of its frames, ask of a schedule
+pub record IsGoodSchedule (s : Schedule) : Type 0 where
+  -- the lines of the events rise, from the first line on
+  pub rising : IsRisingFrom 1 s.events
+  -- their calls have numbers of their types
+  pub typed : AreTyped s.events
+  -- and their clients are those of the configuration
+  pub known : Each (λ (e : ℕ × Event). is_of_clients s.config.clients e.1 ≡ true) s.events
+  pub clients : Each IsClient s.config.clients
+
+-- every schedule that bytes spell is such a one
+abbrev pub SchedulesAreGood : Type 0
+SchedulesAreGood = (bytes : List ℕ) (s : Schedule) → schedule_of bytes ≡ Ok s → IsGoodSchedule s
