@@ -45,7 +45,7 @@ good_bytes : (addr n most len : ℕ) → (n == 0) ≡ false → nat_lt most n �
 good_bytes addr n most len x y z = record { some = grind (arith, nat_tests); at_most = grind (arith, nat_tests); ends = grind (arith, nat_tests) }
 
 -- ---- bytes
-take_passes : {X : Type 0} (test : X → Bool) (n : ℕ) (xs : List X) → list_all test xs ≡ true → list_all test (take n xs) ≡ true
+pub take_passes : {X : Type 0} (test : X → Bool) (n : ℕ) (xs : List X) → list_all test xs ≡ true → list_all test (take n xs) ≡ true
 take_passes test zero xs h = refl
 take_passes test (suc n) [] h = refl
 take_passes test (suc n) (x ∷ xs) h = go (test x) h (take_passes test n xs) where
@@ -53,12 +53,12 @@ take_passes test (suc n) (x ∷ xs) h = go (test x) h (take_passes test n xs) wh
   go true h rec = rec h
   go false h rec = h
 
-drop_passes : {X : Type 0} (test : X → Bool) (n : ℕ) (xs : List X) → list_all test xs ≡ true → list_all test (drop n xs) ≡ true
+pub drop_passes : {X : Type 0} (test : X → Bool) (n : ℕ) (xs : List X) → list_all test xs ≡ true → list_all test (drop n xs) ≡ true
 drop_passes test zero xs h = h
 drop_passes test (suc n) [] h = refl
 drop_passes test (suc n) (x ∷ xs) h = drop_passes test n xs (and_right (test x) (list_all test xs) h)
 
-append_passes : {X : Type 0} (test : X → Bool) (xs ys : List X) → list_all test xs ≡ true → list_all test ys ≡ true → list_all test (xs ++ ys) ≡ true
+pub append_passes : {X : Type 0} (test : X → Bool) (xs ys : List X) → list_all test xs ≡ true → list_all test ys ≡ true → list_all test (xs ++ ys) ≡ true
 append_passes test [] ys h k = k
 append_passes test (x ∷ xs) ys h k = go (test x) h (λ e. append_passes test xs ys e k) where
   go : (b : Bool) → (b && list_all test xs) ≡ true → (list_all test xs ≡ true → list_all test (xs ++ ys) ≡ true) → (b && list_all test (xs ++ ys)) ≡ true
@@ -101,7 +101,7 @@ pieces_good (suc most) at left = go (left == 0) refl (pieces_good most (at + pie
     )
 
 -- ---- each kind of call
-both : (a b : Bool) → a ≡ true → b ≡ true → (a && b) ≡ true
+pub both : (a b : Bool) → a ≡ true → b ≡ true → (a && b) ≡ true
 both true b e f = f
 both false b e f = e
 

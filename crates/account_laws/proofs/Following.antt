@@ -34,7 +34,7 @@ use Rattle.account_laws.proofs.Premises.{Silent, quiet_is_silent, quiet_ends_non
 use Rattle.account_laws.proofs.Fences.{Followed, followed}
 
 -- ---- lines that say nothing of the client
-none_count : {X : Type 0} (test : X → Bool) (xs : List X) → Each (λ (x : X). test x ≡ false) xs → count_by test xs ≡ 0
+pub none_count : {X : Type 0} (test : X → Bool) (xs : List X) → Each (λ (x : X). test x ≡ false) xs → count_by test xs ≡ 0
 none_count test [] h = refl
 none_count test (x ∷ xs) h = sum_by-cons (λ y. cond (test y) 1 0) x xs ∙ go (test x) h.0 (none_count test xs h.1) where
   go : (b : Bool) → b ≡ false → count_by test xs ≡ 0 → cond b 1 0 + count_by test xs ≡ 0
@@ -42,9 +42,9 @@ none_count test (x ∷ xs) h = sum_by-cons (λ y. cond (test y) 1 0) x xs ∙ go
   go false e k = omega arith
 
 -- what a text leaves unsaid of a client
-record Unsaid (c : ClientNo) (t : ℕ) (d : Did) : Type 0 where
+pub record Unsaid (c : ClientNo) (t : ℕ) (d : Did) : Type 0 where
   silent : (p : Part) → Silent c p t d
-  not_sent : is_sending c d ≡ false
+  pub not_sent : is_sending c d ≡ false
 
 is_unsaid : (a : Account) (l : ℕ) (event : Event) (e : Effect) (c : ClientNo) → Each (Unsaid c (now a l)) e.texts → ((n : ℕ) → ends_fence c n (line_of a l event e) ≡ false)
     → issued_on c event e.texts ≡ None → polled_on c (now a l) event ≡ None → Quiet a l event e c
@@ -58,7 +58,7 @@ is_unsaid a l event e c unsaid fences no_call no_poll = record {
   no_moment = λ p. none_read (sending_on c p (now a l)) e.texts (each_weaker _ _ (λ d u. (u.silent p).no_moment) e.texts unsaid);
 }
 
-quiet_unsaid : (c : ClientNo) (t : ℕ) (d : Did) → IsQuiet d → Unsaid c t d
+pub quiet_unsaid : (c : ClientNo) (t : ℕ) (d : Did) → IsQuiet d → Unsaid c t d
 quiet_unsaid c t d quiet = record { silent = λ p. quiet_is_silent c p t d quiet; not_sent = not_sent d quiet } where
   not_sent : (d : Did) → IsQuiet d → is_sending c d ≡ false
   not_sent (did.Sent frame client part id) q = absurd q

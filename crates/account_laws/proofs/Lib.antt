@@ -38,4 +38,6 @@ pub mod StandsKept
 pub mod SpanKept
 pub mod Pieces
 pub mod LocksKept
+pub mod SoundStates
+pub mod Spelled
 pub mod JunkDropped

@@ -35,12 +35,12 @@ use Rattle.account_laws.proofs.SameParts.{and_left, and_right, eqb_is, eqb_same}
 use Rattle.account_laws.proofs.Pieces.{length_with, piece_kept_before, piece_kept_behind, piece_put}
 use Rattle.account_laws.proofs.Lists.{none_some}
 
-abbrev Map : Type 0
+abbrev pub Map : Type 0
 Map = List (Place × Page)
 
 -- each page has 4,096 bytes
-record Whole (m : Map) : Type 0 where
-  pages : (q : Place) (p : Page) → find place_cmp q m ≡ Some p → length (bytes_of p) ≡ PAGE_BYTES
+pub record Whole (m : Map) : Type 0 where
+  pub pages : (q : Place) (p : Page) → find place_cmp q m ≡ Some p → length (bytes_of p) ≡ PAGE_BYTES
 
 -- the word is there, and 1
 record IsOne (m : Map) (pid : ℕ) (word : Addr) : Type 0 where
@@ -49,7 +49,7 @@ record IsOne (m : Map) (pid : ℕ) (word : Addr) : Type 0 where
   one : word_at (offset_of word) (bytes_of page) ≡ 1
 
 -- ---- pages put into a map
-put_cases : (q k : Place) (v : Page) (m : Map) (p : Page) → find place_cmp q (put place_cmp k v m) ≡ Some p → ((q ≡ k) × (v ≡ p)) ⊎ (find place_cmp q m ≡ Some p)
+pub put_cases : (q k : Place) (v : Page) (m : Map) (p : Page) → find place_cmp q (put place_cmp k v m) ≡ Some p → ((q ≡ k) × (v ≡ p)) ⊎ (find place_cmp q m ≡ Some p)
 put_cases q k v m p h = go (same_place q k) refl (sym (find-put place_cmp place_total q k v m) ∙ h) where
   go : (b : Bool) → same_place q k ≡ b → cond b (Some v) (find place_cmp q m) ≡ Some p → ((q ≡ k) × (v ≡ p)) ⊎ (find place_cmp q m ≡ Some p)
   go true same e = inl (same_place-true q k same, cc)
@@ -67,7 +67,7 @@ whole_put m k v whole len = record {
 }
 
 -- ---- what a step on a page's bytes may do: a refusal, or a change of the page
-bytes_by : (P : Outcome → Type 0) (s : FlatState) (pid : ℕ) (addr : Addr) (may : Perm → Bool) (go : Page → Outcome) → ((r : Refusal) → P (refused s r))
+pub bytes_by : (P : Outcome → Type 0) (s : FlatState) (pid : ℕ) (addr : Addr) (may : Perm → Bool) (go : Page → Outcome) → ((r : Refusal) → P (refused s r))
     → ((page : Page) → page_at s pid (page_of addr) ≡ Some page → P (go page)) → P (on_bytes s pid addr may go)
 bytes_by P s pid addr may go refuses goes = found (page_at s pid (page_of addr)) refl where
   last : (page : Page) → page_at s pid (page_of addr) ≡ Some page → (b : Bool) → P (if_pages_last s b (go page))
@@ -131,7 +131,7 @@ word_aligned addr op range =
     let a : (is_good_address addr && (addr.0 % 8 == 0)) ≡ true = and_left (is_good_address addr && (addr.0 % 8 == 0)) (has_words op) range in
     eqb_is (addr.0 % 8) 0 (and_right (is_good_address addr) (addr.0 % 8 == 0) a)
 
-whole_step : (s : FlatState) (pid : ℕ) (r : Request) (reply : Reply) → IsTrue (is_in_range r) → Whole s.map → Whole (state_after s pid r reply).map
+pub whole_step : (s : FlatState) (pid : ℕ) (r : Request) (reply : Reply) → IsTrue (is_in_range r) → Whole s.map → Whole (state_after s pid r reply).map
 whole_step s pid (request.Alloc n perm) (At addr) range whole = whole_fresh perm (places_of pid (page_of addr) n) s.map whole
 whole_step s pid (request.Alloc n perm) (Refused r) range whole = whole
 whole_step s pid (request.Alloc n perm) Nothing range whole = whole

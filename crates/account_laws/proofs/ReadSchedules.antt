@@ -26,7 +26,7 @@ use Rattle.flat_model.specs.Ranges.{are_bytes, is_typed, is_typed_call}
 use Rattle.flat_model.specs.Text.{Text, first_word, is_empty, is_skipped, is_text, lines_in, words_in}
 use Rattle.flat_model.specs.Words.{is_digit, is_plain, value_in, number_in, is_hex_digit, hex_value, address_of_digits, address_in, perm_in, most_written, bytes_of_pairs, times_in, written_of, written_in_parts, written_in, Argument, Number, Address, Permission, BytesWord, Value, N, A, P, B, or_fault, argument_in, with_first, values_in, arguments_in}
 use Rattle.flat_model.specs.Grammar.{alloc_call, free_call, read_call, write_call, lock_call, unlock_call, add_call, cas_call, offload_call, fence_call, u16, u32, u64, process_number, form, bare, of_number, node_says, kv_says, client_says, peek_says, garbage_node_says, garbage_client_says, Fault, Reading, Said, Node, Offload, Client, Happens, Form, CallForm, Begun, by_word, call_forms, call_form, in_call, in_offload, in_deliver, in_garbage, line_forms, of_client, said_by, said_in_form, said_by_words, is_given, event_faults, at_end, judged_line, judged_said, line_read, nothing_read, place_faults, read_more, said_faults, schedule_from}
-use Rattle.account_laws.specs.ReadSchedules.{is_of_clients, IsClient, IsGoodSchedule, SchedulesAreGood}
+use Rattle.account_laws.specs.ReadSchedules.{is_of_clients, IsClient, IsGood, SchedulesAreGood}
 use Rattle.account_laws.specs.Schedules.{IsRisingFrom, AreTyped}
 use Rattle.account_laws.proofs.Lists.{each_append, each_weaker}
 use Rattle.account_laws.proofs.SameParts.{and_left, and_right}
@@ -515,18 +515,18 @@ module _ (n : ℕ) (r : Reading) (line : Text) (k : Reads n r) where
     step true is = subst (Reads (n + 1)) (ok_is r more is) (skips n r k)
     step false is = line_reads more is
 
-end_reads : (n : ℕ) (r : Reading) (node : Option NodeConfig) (s : Schedule) → Reads n r → at_end n r node ≡ Ok s → IsGoodSchedule s
+end_reads : (n : ℕ) (r : Reading) (node : Option NodeConfig) (s : Schedule) → Reads n r → at_end n r node ≡ Ok s → IsGood s.config s.events
 end_reads n r None s k is = absurd (no_ok _ s is)
 end_reads n r (Some node) s k is = step (is_empty r.clients) is where
-  step : (b : Bool) → ◌≡◌ {A = Result Schedule Fault} (if b then Err (n, ClientExpected) else Ok (record { header = r.header; config = record { node = node; clients = r.clients }; events = r.events })) (Ok s) → IsGoodSchedule s
+  step : (b : Bool) → ◌≡◌ {A = Result Schedule Fault} (if b then Err (n, ClientExpected) else Ok (record { header = r.header; config = record { node = node; clients = r.clients }; events = r.events })) (Ok s) → IsGood s.config s.events
   step true is = absurd (no_ok _ s is)
-  step false is = subst IsGoodSchedule (ok_is _ s is) (record { rising = k.rising; typed = k.typed; known = k.known; clients = k.clients })
+  step false is = subst (λ (t : Schedule). IsGood t.config t.events) (ok_is _ s is) (record { rising = k.rising; typed = k.typed; known = k.known; clients = k.clients })
 
-from_reads : (lines : List Text) (n : ℕ) (r : Reading) (s : Schedule) → Reads n r → schedule_from r n lines ≡ Ok s → IsGoodSchedule s
+from_reads : (lines : List Text) (n : ℕ) (r : Reading) (s : Schedule) → Reads n r → schedule_from r n lines ≡ Ok s → IsGood s.config s.events
 from_reads [] n r s k is = end_reads n r r.node s k is
 from_reads (line ∷ lines) n r s k is = step (line_read r n line) refl is (λ more. from_reads lines (n + 1) more s) where
   step : (o : Result Reading Fault) → line_read r n line ≡ o → ◌≡◌ {A = Result Schedule Fault} (elim o [ Err fault ↦ Err fault | Ok more ↦ schedule_from more (n + 1) lines ]) (Ok s)
-      → ((more : Reading) → Reads (n + 1) more → schedule_from more (n + 1) lines ≡ Ok s → IsGoodSchedule s) → IsGoodSchedule s
+      → ((more : Reading) → Reads (n + 1) more → schedule_from more (n + 1) lines ≡ Ok s → IsGood s.config s.events) → IsGood s.config s.events
   step (Err fault) read is rest = absurd (no_ok fault s is)
   step (Ok more) read is rest = rest more (read_reads n r line k more read) is
 

@@ -12,4 +12,6 @@ pub mod Window
 pub mod Machines
 pub mod Span
 pub mod Locks
+pub mod RepliesFit
+pub mod Spelled
 pub mod Junk

@@ -1,6 +1,7 @@
 -- What holds of every schedule that was read from bytes.
 use Rattle.std.specs.Prelude.{ℕ, ◌^◌, ◌<◌, ◌≤◌, ◌≡◌, ◌==◌, Bool, true, List, Ok}
 use Rattle.std.specs.List.{AllByRecursion as Each, list_any}
+use Rattle.cl_types.specs.declared.config.Config.{Config}
 use Rattle.cl_types.specs.declared.numbers.ClientNo.{ClientNo}
 use Rattle.cl_types.specs.declared.numbers.TheConstants.{LAST_PID}
 use Rattle.cl_types.specs.declared.schedule.Event.{Event}
@@ -25,16 +26,20 @@ pub record IsClient (given : ClientNo × ℕ) : Type 0 where
   pub number : given.0.0 < 2 ^ 16
   pub process : (1 ≤ given.1) × (given.1 ≤ LAST_PID)
 
+-- the clients that the events name are these
+abbrev pub AreOfClients : List (ClientNo × ℕ) → List (ℕ × Event) → Type 0
+AreOfClients clients events = Each (λ (e : ℕ × Event). is_of_clients clients e.1 ≡ true) events
+
 -- what the laws of the account, and those of its frames, ask of a schedule
-pub record IsGoodSchedule (s : Schedule) : Type 0 where
+pub record IsGood (config : Config) (events : List (ℕ × Event)) : Type 0 where
   -- the lines of the events rise, from the first line on
-  pub rising : IsRisingFrom 1 s.events
+  pub rising : IsRisingFrom 1 events
   -- their calls have numbers of their types
-  pub typed : AreTyped s.events
-  -- and their clients are those of the configuration
-  pub known : Each (λ (e : ℕ × Event). is_of_clients s.config.clients e.1 ≡ true) s.events
-  pub clients : Each IsClient s.config.clients
+  pub typed : AreTyped events
+  -- their clients are those of the configuration
+  pub known : AreOfClients config.clients events
+  pub clients : Each IsClient config.clients
 
 -- every schedule that bytes spell is such a one
 abbrev pub SchedulesAreGood : Type 0
-SchedulesAreGood = (bytes : List ℕ) (s : Schedule) → schedule_of bytes ≡ Ok s → IsGoodSchedule s
+SchedulesAreGood = (bytes : List ℕ) (s : Schedule) → schedule_of bytes ≡ Ok s → IsGood s.config s.events

@@ -2,6 +2,7 @@
 #![tactic(auto)]
 
 pub mod client_laws;
+pub mod frame_laws;
 pub mod laws;
 pub mod node_laws;
 pub mod text_laws;

@@ -3,6 +3,7 @@
 ghost use Rattle.account_laws.specs.Junk.{LawOfJunk};
 ghost use Rattle.account_laws.specs.Locks.{LawOfLocks};
 ghost use Rattle.account_laws.specs.NodeLines.{NodesFollow};
+ghost use Rattle.account_laws.specs.RepliesFit.{RepliesFit};
 ghost use Rattle.account_laws.specs.Span.{LawOfSpan};
 
 /// Where no changing request comes as long as the span after it was recorded, a node that keeps the latest replies
@@ -15,6 +16,11 @@ pub fn law_of_span()
 /// releases it: a Write, Unlock, Add or Cas that touches the word, or a Free of its page.
 pub fn law_of_locks()
     ensures { LawOfLocks }
+{}
+
+/// In every run each reply is one that a frame of its request's kind can carry, and is as long as the request asks.
+pub fn replies_fit_their_requests()
+    ensures { RepliesFit }
 {}
 
 /// What a node answers with a fault, or with busy to each item, is nothing: without it the other answers are the same,
