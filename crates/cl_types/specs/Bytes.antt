@@ -1,5 +1,6 @@
 -- Pieces of a list of bytes.
 use Rattle.std.specs.Prelude.{ℕ, ◌+◌, List, ◌++◌, take, drop, length, replicate}
+use Rattle.cl_types.specs.declared.limits.TheConstants.{PAGE_BYTES}
 
 -- the n bytes from a place on
 abbrev pub bytes_at : ℕ → ℕ → List ℕ → List ℕ
@@ -19,4 +20,4 @@ zeros n = replicate n 0
 
 -- the bytes of a fresh page, which a goal doesn't compute
 unfoldable pub fresh_bytes : List ℕ
-fresh_bytes = zeros 4096
+fresh_bytes = zeros PAGE_BYTES

@@ -21,6 +21,9 @@ pub const PART_BYTES: u32 = 1024;
 /// The greatest number of bytes of a Read or a Write.
 pub const CALL_BYTES: u32 = 65_536;
 
+/// How many bytes a buffer for a frame has.
+pub const FRAME_ROOM: usize = 1200;
+
 /// How many calls a client holds at most, those that have ended and were not handed back among them.
 pub const HELD_CALLS: u32 = 256;
 
@@ -44,6 +47,9 @@ pub const MOST_CLIENTS: usize = 64;
 
 /// After how many turns in a row with nothing to show a driven client is stalled.
 pub const STALL_TURNS: u32 = 1_000_000;
+
+// The good addresses are those of a space's pages.
+const _: () = prove!(SPACE_PAGES * PAGE_BYTES == ADDRESS_END);
 
 // A frame that carries a part is dead before the part is given up.
 const _: () = prove!(LAST_RESEND + LIFE <= SPAN);

@@ -5,6 +5,7 @@ ghost use Rattle.cl_types.specs.Bytes.{bytes_at, with_bytes, zeros};
 ghost use Rattle.cl_types.specs.Spaces.{IsInOnePage};
 
 use crate::items::NoMemory;
+use crate::limits::PAGE_BYTES;
 use std::alloc::Global;
 use std::marker::Model;
 
@@ -25,7 +26,7 @@ pub trait Space {
 
     /// How many pages it has.
     fn pages(&self) -> u32
-        ensures { length (contents self.now) ≡ result * 4096 };
+        ensures { length (contents self.now) ≡ result * PAGE_BYTES };
 
     /// Fills `out` with the bytes from `at` on.
     fn read_at(&mut self, at: u32, out: &mut [u8])
@@ -54,21 +55,22 @@ pub struct MemorySpace {
 
 impl Model for MemorySpace {
     ghost use Rattle.std.specs.Prelude.{◌≡◌, ℕ, ◌*◌, List, length};
+    ghost use Rattle.cl_types.specs.declared.limits.TheConstants.{PAGE_BYTES};
 
     ghost Value = { List ℕ };
 
     ghost view = { λ space. space.bytes.items };
 
-    ghost invariant = { λ space. length space.bytes.items ≡ space.pages * 4096 };
+    ghost invariant = { λ space. length space.bytes.items ≡ space.pages * PAGE_BYTES };
 }
 
 impl MemorySpace {
     /// So many pages of zeros.
     pub fn create(alloc: Global, pages: u32) -> Result<MemorySpace, NoMemory>
-        ensures { IfOk result (λ space. space ≡ zeros (pages * 4096)) }
+        ensures { IfOk result (λ space. space ≡ zeros (pages * PAGE_BYTES)) }
     {
         let mut bytes = Vec::new(alloc);
-        bytes.resize(pages as usize * 4096, 0)?;
+        bytes.resize(pages as usize * PAGE_BYTES as usize, 0)?;
         Ok(MemorySpace { bytes, pages })
     }
 }

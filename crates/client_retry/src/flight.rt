@@ -15,6 +15,7 @@ use crate::flown::Flown;
 use crate::slots::{PLACES, Slots};
 use crate::walk::{Wanted, walk};
 use cl_types::items::NoMemory;
+use cl_types::limits::PARTS_IN_FLIGHT;
 use cl_types::reply::Part;
 use index_lists::Lists;
 use std::alloc::Global;
@@ -75,7 +76,7 @@ impl Flight {
 
     /// Takes that the part was first sent under the id, at the moment `now`, in ticks.
     pub fn sent(&mut self, part: Part, id: u64, now: u64)
-        requires few { length self.old.flown < 64 }
+        requires few { length self.old.flown < PARTS_IN_FLIGHT }
         requires part { has_part part self.old.flown ≡ false }
         requires id { has_orig id self.old.flown ≡ false }
         requires moment { self.old.last ≤ now }
