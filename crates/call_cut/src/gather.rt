@@ -14,12 +14,10 @@ ghost use Rattle.call_cut.specs.Ends.{is_waiting, given_up_among, refusal_among,
 
 use crate::buffer::{clear, put_part, zero_from};
 use crate::outcome::Outcome;
+use crate::pieces::MOST_PARTS;
 use cl_types::call::Call;
 use cl_types::reply::{Answer, ReplyRef, Value};
 use std::marker::Model;
-
-/// The greatest number of parts of a call.
-const MOST_PARTS: usize = 65;
 
 /// What came of the parts of one call.
 #[derive(Drop)]
@@ -32,18 +30,19 @@ pub struct Gather {
 impl Model for Gather {
     ghost use Rattle.std.specs.Prelude.{List, take, ◌≤◌};
     ghost use Rattle.call_cut.specs.declared.outcome.Outcome.{Outcome};
+    ghost use Rattle.call_cut.specs.declared.pieces.TheConstants.{MOST_PARTS};
 
     ghost Value = { List Outcome };
 
     ghost view = { λ g. take g.parts g.outcomes };
 
-    ghost invariant = { λ g. g.parts ≤ 65 };
+    ghost invariant = { λ g. g.parts ≤ MOST_PARTS };
 }
 
 impl Gather {
     /// For a call of `parts` parts: nothing has come of any.
     pub fn create(parts: u32) -> Gather
-        requires { parts ≤ 65 }
+        requires { parts ≤ MOST_PARTS }
         ensures size { length result ≡ parts }
         ensures waiting { (k : Call) → length (cut k) ≡ parts
             → came result k ≡ replicate parts None }

@@ -8,9 +8,16 @@ ghost use Rattle.flat_model.specs.Issue.{call_faults};
 ghost use Rattle.cl_types.specs.Requests.{request_of};
 
 use cl_types::call::Call;
-use cl_types::limits::{PAGE_BYTES, PART_BYTES};
+use cl_types::limits::{ADDRESS_END, CALL_BYTES, PAGE_BYTES, PART_BYTES};
 use cl_types::numbers::Addr;
 use cl_types::request::RequestRef;
+
+/// The greatest number of parts of a call.
+pub const MOST_PARTS: usize = 65;
+
+// A page is a whole number of parts, so at most two pieces of a call are shorter than a part: the one at the
+// end of its first page, and the last.
+const _: () = prove!(MOST_PARTS == (CALL_BYTES / PART_BYTES) as usize + 1);
 
 /// A piece of the bytes of a call: `len` bytes at the offset `from`.
 #[derive(Clone, Copy)]
@@ -28,10 +35,10 @@ fn piece_len(at: u32, left: u32) -> u32
 
 /// How many pieces `bytes` bytes at an address have.
 fn piece_count(addr: Addr, bytes: u32) -> u32
-    requires few { bytes ≤ 65536 }
-    requires fits { addr.0 + bytes ≤ 268435456 }
+    requires few { bytes ≤ CALL_BYTES }
+    requires fits { addr.0 + bytes ≤ ADDRESS_END }
     ensures count { result ≡ length (pieces addr.0 bytes) }
-    ensures few { result ≤ 65 }
+    ensures few { result ≤ MOST_PARTS }
 {
     let mut count = 0;
     let mut from = 0;
@@ -44,11 +51,11 @@ fn piece_count(addr: Addr, bytes: u32) -> u32
 
 /// Piece `i` of `bytes` bytes at an address.
 pub fn piece_at(addr: Addr, bytes: u32, i: u32) -> Piece
-    requires fits { addr.0 + bytes ≤ 268435456 }
+    requires fits { addr.0 + bytes ≤ ADDRESS_END }
     requires there { i < length (pieces addr.0 bytes) }
     ensures piece { slice_get (pieces addr.0 bytes) i ≡ Some (addr.0 + result.from, result.len) }
     ensures within { result.from + result.len ≤ bytes }
-    ensures short { result.len ≤ 1024 }
+    ensures short { result.len ≤ PART_BYTES }
 {
     let mut from = 0;
     for _k in 0..i {
@@ -64,7 +71,7 @@ pub fn piece_at(addr: Addr, bytes: u32, i: u32) -> Piece
 pub fn parts(call: &Call) -> u32
     requires { first_fault (call_faults call.now) ≡ None }
     ensures parts { result ≡ length (cut call.now) }
-    ensures few { result ≤ 65 }
+    ensures few { result ≤ MOST_PARTS }
 {
     match call {
         Call::Read { addr, buf } => piece_count(*addr, buf.as_slice().len() as u32),
