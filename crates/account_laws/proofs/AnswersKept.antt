@@ -17,10 +17,11 @@ use Rattle.cl_types.specs.declared.line.EndedCall.{EndedCall}
 use Rattle.cl_types.specs.declared.line.Entry.{Entry}
 use Rattle.cl_types.specs.declared.schedule.Event.{Event}
 use Rattle.cl_types.specs.declared.schedule.Event.TheVariants as event
+use Rattle.cl_types.specs.Parts.{same_part}
 use Rattle.flat_model.specs.Cut.{Ending, Replied, GivenUp, first_given_up, combine, answer_bytes}
 use Rattle.flat_model.specs.Order.{is_fence}
 use Rattle.flat_model.specs.Account.{Account, Line, Frame, Carried, Answers, Effect, says, joined_by, extended, now, frame_at, with_entry, memory_at, nothing_yet}
-use Rattle.flat_model.specs.Client.{Standing, ClientCall, ClientPart, Finished, Sending, GivesUp, EndsFence, same_client, same_part, emptied, call_standing, standing_so, parts_named, call_changed, given_up, answered, every, ending_of, all_over, finished, finished_with, told, end_told}
+use Rattle.flat_model.specs.Client.{Standing, ClientCall, ClientPart, Finished, Sending, GivesUp, EndsFence, same_client, emptied, call_standing, standing_so, parts_named, call_changed, given_up, answered, every, ending_of, all_over, finished, finished_with, told, end_told}
 use Rattle.flat_model.specs.Clients.{issued, call_at, first_sent, moments_sent, texts_on, texts_with, part_end, PartEnd, TookFrame, GaveUpAt, end_of_part, ending, ending_by, replied, standing, standing_at, client_at}
 use Rattle.flat_model.specs.Properties.{Differ, AreDistinct, IsTimedOut, EndStands, reply_in_history}
 use Rattle.flat_model.specs.Events.{record_of, on_polled, on_flight, on_item, on_items, effect, account, account_from, keep_all}

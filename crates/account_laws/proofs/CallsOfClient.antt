@@ -4,9 +4,10 @@ use Rattle.std.specs.Prelude.{filter, ◌&&◌, ◌||◌, ◌==◌, not, is_some
 use Rattle.cl_types.specs.declared.call.Call.{Call}
 use Rattle.cl_types.specs.declared.request.Request.{Request}
 use Rattle.cl_types.specs.declared.reply.Part.{Part}
+use Rattle.cl_types.specs.Parts.{same_part}
 use Rattle.flat_model.specs.Cut.{Ending}
 use Rattle.flat_model.specs.Order.{is_fence}
-use Rattle.flat_model.specs.Client.{Standing, Unsent, InFlight, Over, ClientPart, ClientCall, Outgoing, same_part, part_changed, call_changed, standing_so, call_standing, parts_named, emptied, every, ending_of, all_over, finished_with, finished, gone_out, sent_calls, is_fence_of}
+use Rattle.flat_model.specs.Client.{Standing, Unsent, InFlight, Over, ClientPart, ClientCall, Outgoing, part_changed, call_changed, standing_so, call_standing, parts_named, emptied, every, ending_of, all_over, finished_with, finished, gone_out, sent_calls, is_fence_of}
 use Rattle.account_laws.proofs.Standings.{all_gone_out}
 
 -- ---- a changed part is changed in its call

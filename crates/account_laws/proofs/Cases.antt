@@ -14,13 +14,14 @@ use Rattle.cl_types.specs.declared.schedule.Event.TheVariants as event
 use Rattle.cl_types.specs.declared.line.Did.{Did}
 use Rattle.cl_types.specs.declared.line.Did.TheVariants as did
 use Rattle.cl_types.specs.declared.line.Entry.{Entry}
+use Rattle.cl_types.specs.Times.{is_live, is_old, is_due}
 use Rattle.flat_model.specs.Pages.{page_of}
 use Rattle.flat_model.specs.State.{FlatState, Page, page_at}
 use Rattle.flat_model.specs.Frames.{request_fault, reply_fault}
 use Rattle.flat_model.specs.Order.{is_fence}
 use Rattle.flat_model.specs.Issue.{issue_fault}
-use Rattle.flat_model.specs.Account.{Account, Frame, Carried, Load, Asks, Answers, Effect, says, now, frame_at, is_live, taken_in_order, memory_at}
-use Rattle.flat_model.specs.Client.{ClientState, ClientCall, ClientPart, Sending, Polled, GivesUp, EndsFence, Sends, Idles, poll, flights, sendable, flight_under, next_id, is_old, is_due, to_give_up, fence_first, to_send_again, to_send, has_room_in_flight, again, anew}
+use Rattle.flat_model.specs.Account.{Account, Frame, Carried, Load, Asks, Answers, Effect, says, now, frame_at, taken_in_order, memory_at}
+use Rattle.flat_model.specs.Client.{ClientState, ClientCall, ClientPart, Sending, Polled, GivesUp, EndsFence, Sends, Idles, poll, flights, sendable, flight_under, next_id, to_give_up, fence_first, to_send_again, to_send, has_room_in_flight, again, anew}
 use Rattle.flat_model.specs.Clients.{call_of, expanded, client_at}
 use Rattle.flat_model.specs.Properties.{is_delivery}
 use Rattle.flat_model.specs.Events.{on_judged, on_call, on_polled, on_flight, on_found_page, on_peek, shown, on_garbage, on_items, handed, if_live, on_frame, on_delivery, if_there, on_next, effect}
@@ -49,7 +50,7 @@ IsNoPeek other = Unit {0}
 -- the frame of this number is live, and carries this
 pub record IsGiven (a : Account) (l k : ℕ) (frame : Frame) (load : Load) : Type 0 where
   pub is_frame : frame_at a k ≡ Some frame
-  pub live : is_live (now a l) frame ≡ true
+  pub live : is_live (now a l) frame.moment ≡ true
   pub carries : frame.load ≡ load
 
 -- what is to be shown of the effects of all events on line l
@@ -58,11 +59,11 @@ pub record Cases (keep : List Entry → List Entry) (config : Config) (a : Accou
   pub peeks : (pid : ℕ) (addr : Addr) (n : ℕ) → P (event.Peek pid addr n) (on_peek (memory_at config a.history l 0) pid addr n)
   pub issues : (c : ClientNo) (text : CallText) → issue_fault (client_at config a c) (call_of text) ≡ None
       → P (event.Call c text) (on_judged (client_at config a c) None)
-  pub gives_up : (c : ClientNo) (f : Sending) → FlightOf a c f → is_old (now a l) f ≡ true
+  pub gives_up : (c : ClientNo) (f : Sending) → FlightOf a c f → is_old (now a l) f.first ≡ true
       → P (event.Poll c) (on_polled a l (client_at config a c) (GivesUp f))
   pub ends_fence : (c : ClientNo) (k : ClientCall) (rest : List ClientCall) → (client_at config a c).calls ≡ k ∷ rest → is_fence k.call ≡ true
       → P (event.Poll c) (on_polled a l (client_at config a c) (EndsFence k.number))
-  pub sends_again : (c : ClientNo) (f : Sending) → FlightOf a c f → is_due (now a l) f ≡ true
+  pub sends_again : (c : ClientNo) (f : Sending) → FlightOf a c f → is_due (now a l) f.first f.last ≡ true
       → P (event.Poll c) (on_polled a l (client_at config a c) (Sends (again (next_id (client_at config a c)) f ∷ [])))
   pub sends : (c : ClientNo) (p : ClientPart) → SendableOf config a c p
       → P (event.Poll c) (on_polled a l (client_at config a c) (Sends (anew (next_id (client_at config a c)) p ∷ [])))
@@ -113,13 +114,13 @@ module _ (keep : List Entry → List Entry) (config : Config) (a : Account) (l :
       let s : ClientState = client_at config a c in
       let t : ℕ = now a l in
       first_case (Of c) (to_give_up s t ∷ fence_first s.calls ∷ to_send_again s t ∷ to_send s ∷ []) Idles (
-        case_of_map (Of c) GivesUp (find (is_old (now a l)) (flights (client_at config a c)))
-            (λ f is. let h = find_some (FlightOf a c) (is_old (now a l)) (flights (client_at config a c)) f (flights_are config a c) is in cases.gives_up c f h.0 h.1),
+        case_of_map (Of c) GivesUp (find (λ g. is_old (now a l) g.first) (flights (client_at config a c)))
+            (λ f is. let h = find_some (FlightOf a c) (λ g. is_old (now a l) g.first) (flights (client_at config a c)) f (flights_are config a c) is in cases.gives_up c f h.0 h.1),
         (
           fence_case c (client_at config a c).calls refl,
           (
-            case_of_map (Of c) (λ (f : Sending). Sends (again (next_id (client_at config a c)) f ∷ [])) (find (is_due (now a l)) (flights (client_at config a c)))
-                (λ f is. let h = find_some (FlightOf a c) (is_due (now a l)) (flights (client_at config a c)) f (flights_are config a c) is in cases.sends_again c f h.0 h.1),
+            case_of_map (Of c) (λ (f : Sending). Sends (again (next_id (client_at config a c)) f ∷ [])) (find (λ g. is_due (now a l) g.first g.last) (flights (client_at config a c)))
+                (λ f is. let h = find_some (FlightOf a c) (λ g. is_due (now a l) g.first g.last) (flights (client_at config a c)) f (flights_are config a c) is in cases.sends_again c f h.0 h.1),
             (send_case c (has_room_in_flight (client_at config a c)), tt),
           ),
         ),
@@ -139,7 +140,7 @@ module _ (keep : List Entry → List Entry) (config : Config) (a : Account) (l :
   handed_case e k frame (Answers head reply if_taken) delivers given =
       reply_case e k frame head reply if_taken delivers given (flight_under head.orig (client_at config a head.client)) refl
 
-  live_case : (e : Event) (k : ℕ) (frame : Frame) → is_delivery e ≡ true → frame_at a k ≡ Some frame → (b : Bool) → is_live (now a l) frame ≡ b → P e (if_live keep config a l k frame b)
+  live_case : (e : Event) (k : ℕ) (frame : Frame) → is_delivery e ≡ true → frame_at a k ≡ Some frame → (b : Bool) → is_live (now a l) frame.moment ≡ b → P e (if_live keep config a l k frame b)
   live_case e k frame delivers at_number false is = cases.quiet e (did.Expired k frame.moment) (delivery_no_peek e delivers) tt
   live_case e k frame delivers at_number true is = handed_case e k frame frame.load delivers (record { is_frame = at_number; live = is; carries = refl })
 
@@ -147,7 +148,7 @@ module _ (keep : List Entry → List Entry) (config : Config) (a : Account) (l :
   delivery_case e k delivers = go (frame_at a k) refl where
     go : (o : Option Frame) → frame_at a k ≡ o → P e (on_frame keep config a l k o)
     go None is = cases.quiet e (did.Absent k) (delivery_no_peek e delivers) tt
-    go (Some frame) is = live_case e k frame delivers is (is_live (now a l) frame) refl
+    go (Some frame) is = live_case e k frame delivers is (is_live (now a l) frame.moment) refl
 
   next_case : (e : Event) (go : ℕ → Effect) → IsNoPeek e → ((k : ℕ) → P e (go k)) → P e (on_next keep config a go)
   next_case e go no_peek each = by (frame_at a (taken_in_order a + 1)) where

@@ -16,10 +16,12 @@ use Rattle.cl_types.specs.declared.schedule.Event.TheVariants as event
 use Rattle.cl_types.specs.declared.line.Did.{Did}
 use Rattle.cl_types.specs.declared.line.Did.TheVariants as did
 use Rattle.cl_types.specs.declared.line.Entry.{Entry}
+use Rattle.cl_types.specs.Parts.{same_part}
+use Rattle.cl_types.specs.Times.{is_live}
 use Rattle.flat_model.specs.Frames.{request_fault, reply_fault}
 use Rattle.flat_model.specs.Issue.{issue_fault}
-use Rattle.flat_model.specs.Account.{Account, Frame, Load, Asks, Answers, Effect, says, extended, now, frame_at, is_live, next_frame_number, taken_in_order, memory_at, nothing_yet}
-use Rattle.flat_model.specs.Client.{Sending, Outgoing, Polled, GivesUp, EndsFence, Sends, Idles, poll, same_client, same_part, flight_under, handed_out, after_poll}
+use Rattle.flat_model.specs.Account.{Account, Frame, Load, Asks, Answers, Effect, says, extended, now, frame_at, next_frame_number, taken_in_order, memory_at, nothing_yet}
+use Rattle.flat_model.specs.Client.{Sending, Outgoing, Polled, GivesUp, EndsFence, Sends, Idles, poll, same_client, flight_under, handed_out, after_poll}
 use Rattle.flat_model.specs.Clients.{call_of, expanded, issued_on, polled_on, is_sending, part_end, first_sending, sending_on, says_fence_ended, ends_fence, TookFrame, GaveUpAt, replied, client_at}
 use Rattle.flat_model.specs.Events.{on_judged, on_call, on_polled, on_flight, on_reply, on_items, handed, if_live, on_frame, on_delivery, if_there, on_next, shown, on_garbage, sent_text, effect, account_from}
 use Rattle.account_laws.specs.ClientLines.{Quiet}
@@ -189,7 +191,7 @@ module _ (keep : List Entry → List Entry) (config : Config) (a : Account) (l :
 
   follows_frame : (k : ℕ) (o : Option Frame) → frame_at a k ≡ o → client_at config (extended a l event (on_frame keep config a l k o)) c ≡ after_frame (now a l) o (client_at config a c)
   follows_frame k None at_number = quiet_leaves config a l event c h (did.Absent k) tt (delivering (did.Absent k ∷ []))
-  follows_frame k (Some frame) at_number = go (is_live (now a l) frame) where
+  follows_frame k (Some frame) at_number = go (is_live (now a l) frame.moment) where
     go : (b : Bool) → client_at config (extended a l event (if_live keep config a l k frame b)) c ≡ after_delivered b frame (client_at config a c)
     go true = follows_load k frame frame.load at_number refl
     go false = quiet_leaves config a l event c h (did.Expired k frame.moment) tt (delivering (did.Expired k frame.moment ∷ []))

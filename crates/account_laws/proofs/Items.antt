@@ -11,9 +11,10 @@ use Rattle.cl_types.specs.declared.reply.Reply.{Reply}
 use Rattle.cl_types.specs.declared.line.Did.{Did}
 use Rattle.cl_types.specs.declared.line.Did.TheVariants as did
 use Rattle.cl_types.specs.declared.line.Entry.{Entry}
+use Rattle.cl_types.specs.Times.{is_young}
 use Rattle.flat_model.specs.State.{FlatState}
 use Rattle.flat_model.specs.Account.{Account, Carried, joined_by, memory_at, now}
-use Rattle.flat_model.specs.Handling.{Handling, Repeats, RefusesForNow, Executes, Looks, handling, if_young, is_young, oldest_of}
+use Rattle.flat_model.specs.Handling.{Handling, Repeats, RefusesForNow, Executes, Looks, handling, if_young, oldest_of}
 use Rattle.flat_model.specs.Events.{on_item, on_items, handled, item_handling, record_of}
 use Rattle.account_laws.proofs.Lists.{each_append}
 

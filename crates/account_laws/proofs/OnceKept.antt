@@ -13,10 +13,11 @@ use Rattle.cl_types.specs.declared.line.Did.TheVariants as did
 use Rattle.cl_types.specs.declared.line.Entry.{Entry}
 use Rattle.cl_types.specs.declared.schedule.Event.{Event}
 use Rattle.cl_types.specs.declared.schedule.Event.TheVariants as event
+use Rattle.cl_types.specs.Parts.{same_part}
 use Rattle.flat_model.specs.State.{FlatState}
 use Rattle.flat_model.specs.Run.{changing_of}
 use Rattle.flat_model.specs.Account.{Account, Frame, Carried, Load, Asks, Answers, items_of, if_taken_of, Effect, says, joined_by, extended, now, is_before, with_entry, with_entries, memory_at, recorded, entries_before, next_frame_number, nothing_yet}
-use Rattle.flat_model.specs.Client.{ClientPart, Sending, GivesUp, EndsFence, Sends, same_client, same_part, again, anew, next_id}
+use Rattle.flat_model.specs.Client.{ClientPart, Sending, GivesUp, EndsFence, Sends, same_client, again, anew, next_id}
 use Rattle.flat_model.specs.Clients.{request_of_part, first_sent, first_sending, first_of, texts_with, part_end, TookFrame, pid_of, client_at}
 use Rattle.flat_model.specs.Handling.{Handling, Repeats, RefusesForNow, Executes, Looks, item_outcome}
 use Rattle.flat_model.specs.Properties.{Differ, AreDistinct}

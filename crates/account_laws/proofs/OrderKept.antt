@@ -16,9 +16,11 @@ use Rattle.cl_types.specs.declared.line.Did.TheVariants as did
 use Rattle.cl_types.specs.declared.line.Entry.{Entry}
 use Rattle.cl_types.specs.declared.schedule.Event.{Event}
 use Rattle.cl_types.specs.declared.schedule.Event.TheVariants as event
+use Rattle.cl_types.specs.Parts.{same_part}
+use Rattle.cl_types.specs.Times.{is_live}
 use Rattle.flat_model.specs.State.{FlatState}
-use Rattle.flat_model.specs.Account.{Account, Line, Frame, Carried, Load, Asks, Answers, Effect, says, joined_by, extended, now, is_live, frame_at, is_before, with_entry, with_entries, items_of, if_taken_of, memory_at, recorded, next_frame_number, nothing_yet}
-use Rattle.flat_model.specs.Client.{Sending, GivesUp, EndsFence, Sends, same_client, same_part, again, anew, next_id}
+use Rattle.flat_model.specs.Account.{Account, Line, Frame, Carried, Load, Asks, Answers, Effect, says, joined_by, extended, now, frame_at, is_before, with_entry, with_entries, items_of, if_taken_of, memory_at, recorded, next_frame_number, nothing_yet}
+use Rattle.flat_model.specs.Client.{Sending, GivesUp, EndsFence, Sends, same_client, again, anew, next_id}
 use Rattle.flat_model.specs.Clients.{first_sent, request_of_part, part_end, PartEnd, TookFrame, GaveUpAt, end_of_part, texts_with, texts_on, client_at}
 use Rattle.flat_model.specs.Handling.{Handling, Repeats, RefusesForNow, Executes, Looks, item_outcome}
 use Rattle.flat_model.specs.Properties.{Differ, AreDistinct, Precedes}
@@ -102,7 +104,7 @@ has_none e (x ∷ h) c p reply j k d (inl m) = d.0 (j ∙ sym m.client) (k ∙ s
 has_none e (x ∷ h) c p reply j k d (inr m) = has_none e h c p reply j k d.1 m
 
 live_open : (config : Config) (a : Account) (l q : ℕ) (f : Frame) (i : Carried) (reply : Reply) (h : List Entry) → Times a l → Each (λ (line : Line). Each (TakesOf a) line.texts) a.lines →
-    SentYoung a f i → is_live (now a l) f ≡ true → ItemOwned config a i → is_changing i.item.request ≡ true →
+    SentYoung a f i → is_live (now a l) f.moment ≡ true → ItemOwned config a i → is_changing i.item.request ≡ true →
     ((reply : Reply) → HasEntry a.history i.item.head.client i.part reply → HasEntry h i.item.head.client i.part reply) → Each (Differ (entry_of l q i reply)) h → is_over a i.item.head.client i.part ≡ false
 live_open config a l q f i reply h t k y live own changing more differ = go (end_of_part a i.item.head.client i.part) refl
   where
@@ -163,7 +165,7 @@ record Ready (a : Account) (l : ℕ) (f : Frame) : Type 0 where
   times : Times a l
   settled : Settled a
   takes : Each (λ (line : Line). Each (TakesOf a) line.texts) a.lines
-  live : is_live (now a l) f ≡ true
+  live : is_live (now a l) f.moment ≡ true
 
 module _ (config : Config) (a : Account) (l : ℕ) (f : Frame) (ready : Ready a l f) where
   handled_ordered : (b : Account) (k q : ℕ) (i : Carried) (retry : ℕ) → SentYoung a f i → ItemOwned config a i

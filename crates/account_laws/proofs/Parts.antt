@@ -11,9 +11,10 @@ use Rattle.cl_types.specs.declared.reply.Part.{Part}
 use Rattle.cl_types.specs.declared.line.Did.{Did}
 use Rattle.cl_types.specs.declared.line.Did.TheVariants as did
 use Rattle.cl_types.specs.declared.schedule.Event.{Event}
+use Rattle.cl_types.specs.Parts.{same_part}
 use Rattle.flat_model.specs.Cut.{Ending}
 use Rattle.flat_model.specs.Account.{Account, Line, Effect, extended, now}
-use Rattle.flat_model.specs.Client.{same_client, same_part}
+use Rattle.flat_model.specs.Client.{same_client}
 use Rattle.flat_model.specs.Clients.{issued, issued_on, first_sent, first_sending, first_of, texts_with, request_of_part, part_request, call_at, part_end, PartEnd, end_of_part, ending, ending_by, is_sending, sendings}
 use Rattle.account_laws.specs.ClientLines.{Told}
 use Rattle.account_laws.proofs.PartsOnce.{is_over, Owned, Ids}

@@ -17,9 +17,10 @@ use Rattle.cl_types.specs.declared.schedule.Event.TheVariants as event
 use Rattle.cl_types.specs.declared.line.Did.{Did}
 use Rattle.cl_types.specs.declared.line.Did.TheVariants as did
 use Rattle.cl_types.specs.declared.line.Entry.{Entry}
+use Rattle.cl_types.specs.Parts.{same_part}
 use Rattle.flat_model.specs.Cut.{Ending, Replied, GivenUp}
 use Rattle.flat_model.specs.Account.{Account, Line, Frame, Carried, Answers, Effect, says, now, extended, next_frame_number, memory_at, nothing_yet}
-use Rattle.flat_model.specs.Client.{ClientCall, Sending, Outgoing, GivesUp, EndsFence, Sends, same_client, same_part, again, anew, next_id}
+use Rattle.flat_model.specs.Client.{ClientCall, Sending, Outgoing, GivesUp, EndsFence, Sends, same_client, again, anew, next_id}
 use Rattle.flat_model.specs.Clients.{issued, issued_on, call_at, part_request, request_of_part, first_of, first_sending, sending_on, PartEnd, TookFrame, GaveUpAt, part_end, end_of_part, replied, ending_by, texts_with, says_fence_ended, ends_fence, client_at}
 use Rattle.flat_model.specs.Events.{on_judged, on_polled, on_flight, on_items, sent_text, next_account}
 use Rattle.account_laws.specs.Flights.{FlightOf}

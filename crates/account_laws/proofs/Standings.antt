@@ -11,9 +11,10 @@ use Rattle.cl_types.specs.declared.reply.Reply.{Reply}
 use Rattle.cl_types.specs.declared.line.Did.{Did}
 use Rattle.cl_types.specs.declared.line.Did.TheVariants as did
 use Rattle.cl_types.specs.declared.schedule.Event.{Event}
+use Rattle.cl_types.specs.Parts.{same_part}
 use Rattle.flat_model.specs.Cut.{Ending, Replied, GivenUp}
 use Rattle.flat_model.specs.Account.{Account, Line, Frame, Effect, now, extended, frame_at}
-use Rattle.flat_model.specs.Client.{Standing, Unsent, InFlight, Over, Outgoing, same_client, same_part, given_up, answered, gone_out}
+use Rattle.flat_model.specs.Client.{Standing, Unsent, InFlight, Over, Outgoing, same_client, given_up, answered, gone_out}
 use Rattle.flat_model.specs.Events.{sent_text}
 use Rattle.flat_model.specs.Clients.{texts_on, texts_with, first_of, last_of, first_sending, first_sent, sending_on, moments_sent, PartEnd, TookFrame, GaveUpAt, part_end, end_of_part, replied, ending_by, ending, standing, standing_at}
 use Rattle.account_laws.specs.ClientLines.{Told}

@@ -17,9 +17,10 @@ use Rattle.cl_types.specs.declared.line.Did.TheVariants as did
 use Rattle.cl_types.specs.declared.line.Entry.{Entry}
 use Rattle.cl_types.specs.declared.schedule.Event.{Event}
 use Rattle.cl_types.specs.declared.schedule.Event.TheVariants as event
+use Rattle.cl_types.specs.Times.{is_live}
 use Rattle.flat_model.specs.State.{FlatState}
 use Rattle.flat_model.specs.Frames.{status_in}
-use Rattle.flat_model.specs.Account.{Account, Line, Frame, Carried, Load, Asks, Answers, Effect, says, joined_by, extended, is_live, frame_at, is_before, with_entries, items_of, if_taken_of, memory_at, recorded, entries_before, next_frame_number, nothing_yet}
+use Rattle.flat_model.specs.Account.{Account, Line, Frame, Carried, Load, Asks, Answers, Effect, says, joined_by, extended, frame_at, is_before, with_entries, items_of, if_taken_of, memory_at, recorded, entries_before, next_frame_number, nothing_yet}
 use Rattle.flat_model.specs.Client.{Sending}
 use Rattle.flat_model.specs.Clients.{request_of_part, client_at}
 use Rattle.flat_model.specs.Handling.{Handling, Repeats, RefusesForNow, Executes, Looks, item_outcome}
@@ -70,7 +71,7 @@ record PlacedAt (a : Account) (e : Entry) (how : How) (reply_frame : ℕ) : Type
   frame_number : ℕ
   frame : Frame
   is_frame : frame_at a frame_number ≡ Some frame
-  live : is_live line.moment frame ≡ true
+  live : is_live line.moment frame.moment ≡ true
   item : Carried
   at_position : slice_get (items_of frame.load) e.position ≡ Some item
   carries : CarriesPart e.client e.part item

@@ -13,9 +13,10 @@ use Rattle.cl_types.specs.declared.line.Did.TheVariants as did
 use Rattle.cl_types.specs.declared.line.Entry.{Entry}
 use Rattle.cl_types.specs.declared.schedule.Event.{Event}
 use Rattle.cl_types.specs.declared.schedule.Event.TheVariants as event
+use Rattle.cl_types.specs.Times.{is_live, is_old, is_due}
 use Rattle.flat_model.specs.State.{FlatState}
-use Rattle.flat_model.specs.Account.{Account, Line, Frame, Carried, Load, Asks, items_of, if_taken_of, Effect, says, joined_by, now, extended, next_frame_number, is_live, frame_at, memory_at, nothing_yet}
-use Rattle.flat_model.specs.Client.{ClientPart, Sending, GivesUp, Sends, again, anew, next_id, is_old, is_due}
+use Rattle.flat_model.specs.Account.{Account, Line, Frame, Carried, Load, Asks, items_of, if_taken_of, Effect, says, joined_by, now, extended, next_frame_number, frame_at, memory_at, nothing_yet}
+use Rattle.flat_model.specs.Client.{ClientPart, Sending, GivesUp, Sends, again, anew, next_id}
 use Rattle.flat_model.specs.Clients.{first_of, first_sending, first_sent, client_at}
 use Rattle.flat_model.specs.Handling.{Handling, Repeats, RefusesForNow, Executes, Looks}
 use Rattle.flat_model.specs.Events.{entry_of, handled, then_also, on_polled, on_flight, on_item, on_items, effect, next_account, account_from, keep_all}
@@ -117,7 +118,7 @@ quiet_fits a l event d quiet = record { young = tt; old = (not_given_up (extende
   not_given_up b t other q = tt
 
 -- ---- a poll
-gives_up_fits : (config : Config) (a : Account) (l : ℕ) (event : Event) (c : ClientNo) (f : Sending) → FlightOf a c f → is_old (now a l) f ≡ true → Fit a l event (on_polled a l (client_at config a c) (GivesUp f))
+gives_up_fits : (config : Config) (a : Account) (l : ℕ) (event : Event) (c : ClientNo) (f : Sending) → FlightOf a c f → is_old (now a l) f.first ≡ true → Fit a l event (on_polled a l (client_at config a c) (GivesUp f))
 gives_up_fits config a l event c f of old = record {
   young = tt;
   old = (
@@ -132,7 +133,7 @@ gives_up_fits config a l event c f of old = record {
   entered = tt;
 }
 
-again_fits : (config : Config) (a : Account) (l : ℕ) (event : Event) (c : ClientNo) (f : Sending) → Times a l → FlightOf a c f → is_due (now a l) f ≡ true
+again_fits : (config : Config) (a : Account) (l : ℕ) (event : Event) (c : ClientNo) (f : Sending) → Times a l → FlightOf a c f → is_due (now a l) f.first f.last ≡ true
     → Fit a l event (on_polled a l (client_at config a c) (Sends (again (next_id (client_at config a c)) f ∷ [])))
 again_fits config a l event c f times of due = record {
   young = (
@@ -298,7 +299,7 @@ of_age a f i h = record {
 }
 
 gone_item : (a : Account) (c : ClientNo) (p : Part) (t : ℕ) (f : Frame) (i : Carried) → OldAt a t c p → SentYoung a f i →
-    CarriesPart c p i → (s : ℕ) → t ≤ s → is_live s f ≡ false
+    CarriesPart c p i → (s : ℕ) → t ≤ s → is_live s f.moment ≡ false
 gone_item a c p t f i h y k s m =
     let same : h.first ≡ y.first = first_same a c i.item.head.client p i.part h.first y.first k.client k.part h.sent y.sent in
     let old : h.first + SPAN ≤ t = h.age in
@@ -311,7 +312,7 @@ gone_from a l t (did.GaveUp c p) u h = each_weaker _ _ (λ f. each_weaker _ _ (�
 gone_from a l t other u h = tt
 
 pub spent_item : (a : Account) (l : ℕ) (e : Entry) (f : Frame) (i : Carried) → Entered a l e → SentYoung a f i →
-    CarriesPart e.client e.part i → (t : ℕ) → is_live t f ≡ true → t < now a e.line + SPAN
+    CarriesPart e.client e.part i → (t : ℕ) → is_live t f.moment ≡ true → t < now a e.line + SPAN
 spent_item a l e f i h y k t live =
     let same : h.first ≡ y.first = first_same a e.client i.item.head.client e.part i.part h.first y.first k.client k.part h.sent y.sent in
     let from : h.first ≤ now a e.line = h.not_before in

@@ -5,7 +5,8 @@ use Rattle.std.proofs.lemmas.Bool.Decides.{nat_tests}
 use Rattle.std.proofs.lemmas.List.{length-drop, drop-append-le, drop-drop}
 use Rattle.std.specs.List.{AllByRecursion as Each}
 use Rattle.cl_types.specs.declared.limits.TheConstants.{SPAN}
-use Rattle.flat_model.specs.Handling.{latest, oldest_of, is_young}
+use Rattle.cl_types.specs.Times.{is_young}
+use Rattle.flat_model.specs.Handling.{latest, oldest_of}
 use Rattle.account_laws.proofs.Lists.{each_slice_get, slice_get_within, slice_get_there}
 
 module _ {X : Type 0} (moment : X → ℕ) (R : ℕ) where

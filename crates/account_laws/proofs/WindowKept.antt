@@ -14,10 +14,12 @@ use Rattle.cl_types.specs.declared.line.Entry.{Entry}
 use Rattle.cl_types.specs.declared.line.Did.TheVariants as did
 use Rattle.cl_types.specs.declared.schedule.Event.{Event}
 use Rattle.cl_types.specs.declared.schedule.Event.TheVariants as event
+use Rattle.cl_types.specs.Parts.{same_part}
+use Rattle.cl_types.specs.Times.{is_live}
 use Rattle.flat_model.specs.State.{FlatState}
 use Rattle.flat_model.specs.Run.{changing_of}
-use Rattle.flat_model.specs.Account.{Account, Line, Frame, Carried, Load, Asks, Answers, Effect, says, frame_at, taken_in_order, joined_by, extended, now, ticks_of, is_live, is_before, items_of, if_taken_of, with_entry, with_entries, memory_at, recorded, nothing_yet}
-use Rattle.flat_model.specs.Client.{same_client, same_part}
+use Rattle.flat_model.specs.Account.{Account, Line, Frame, Carried, Load, Asks, Answers, Effect, says, frame_at, taken_in_order, joined_by, extended, now, ticks_of, is_before, items_of, if_taken_of, with_entry, with_entries, memory_at, recorded, nothing_yet}
+use Rattle.flat_model.specs.Client.{same_client}
 use Rattle.flat_model.specs.Handling.{Handling, Repeats, RefusesForNow, Executes, Looks, handling, item_outcome, latest}
 use Rattle.flat_model.specs.Properties.{CarriesPart}
 use Rattle.flat_model.specs.Ranges.{is_typed}
@@ -156,7 +158,7 @@ pub record MadeAfter (a : Account) (e : Entry) : Type 0 where
   pub not_before : first ≤ now a e.line
 
 -- of an item of a live frame, an entry of its part is young
-made_young : (a : Account) (e : Entry) (f : Frame) (i : Carried) → MadeAfter a e → SentYoung a f i → CarriesPart e.client e.part i → (t : ℕ) → is_live t f ≡ true → t < now a e.line + SPAN
+made_young : (a : Account) (e : Entry) (f : Frame) (i : Carried) → MadeAfter a e → SentYoung a f i → CarriesPart e.client e.part i → (t : ℕ) → is_live t f.moment ≡ true → t < now a e.line + SPAN
 made_young a e f i h y k t live =
     let same : h.first ≡ y.first = first_same a e.client i.item.head.client e.part i.part h.first y.first k.client k.part h.sent y.sent in
     let from : h.first ≤ now a e.line = h.not_before in
@@ -164,7 +166,7 @@ made_young a e f i h y k t live =
     let n : t - f.moment < 100 = grind (arith, nat_tests) in
     omega arith
 
-latest_tell : (config : Config) (a : Account) (h : List Entry) (f : Frame) (i : Carried) → Each (MadeAfter a) h → IsSpaced config a (changing_of h) → SentYoung a f i → (t : ℕ) → clock a ≤ t → is_live t f ≡ true
+latest_tell : (config : Config) (a : Account) (h : List Entry) (f : Frame) (i : Carried) → Each (MadeAfter a) h → IsSpaced config a (changing_of h) → SentYoung a f i → (t : ℕ) → clock a ≤ t → is_live t f.moment ≡ true
     → record_of (latest config.node.retry (changing_of h)) i.item.head.client i.part ≡ record_of (changing_of h) i.item.head.client i.part
 latest_tell config a h f i made s y t low live = go (record_of (changing_of h) i.item.head.client i.part) refl
   where
@@ -199,7 +201,7 @@ record Stage (config : Config) (b : Account) (l q : ℕ) : Type 0 where
   low : clock b ≤ now b l
 
 -- both handle the item alike
-same_handling : (config : Config) (b : Account) (l q : ℕ) (f : Frame) (i : Carried) → 1 ≤ config.node.retry → Stage config b l q → SentYoung b f i → is_live (now b l) f ≡ true
+same_handling : (config : Config) (b : Account) (l q : ℕ) (f : Frame) (i : Carried) → 1 ≤ config.node.retry → Stage config b l q → SentYoung b f i → is_live (now b l) f.moment ≡ true
     → item_handling (recorded b.history l q) config.node.retry b l i ≡ item_handling (latest config.node.retry (recorded b.history l q)) config.node.retry b l i
 same_handling config b l q f i some stage y live =
     let all : recorded b.history l q ≡ changing_of b.history = recorded_all b.history l q stage.ran.before in
@@ -209,7 +211,7 @@ same_handling config b l q f i some stage y live =
     λ j. handling (is_changing i.item.request) (option_map (λ e. e.reply) (sym told j)) (now b l)
     (option_map (λ e. now b e.line) (sym (oldest_latest config.node.retry (recorded b.history l q) some) j))
 
-made_more : (config : Config) (b : Account) (l k q : ℕ) (f : Frame) (i : Carried) → Stage config b l q → SentYoung b f i → is_live (now b l) f ≡ true → ((m : ℕ) → FirstAt b i.item.head.client i.part m → m ≤ now b l)
+made_more : (config : Config) (b : Account) (l k q : ℕ) (f : Frame) (i : Carried) → Stage config b l q → SentYoung b f i → is_live (now b l) f.moment ≡ true → ((m : ℕ) → FirstAt b i.item.head.client i.part m → m ≤ now b l)
     → (s : FlatState) (h : Handling) → Each (MadeAfter b) (joined_by b (handled s b l k q i h)).history
 made_more config b l k q f i stage y live first_low s h = each_with_entries (MadeAfter b) (handled s b l k q i h).entries b.history (new h) stage.made where
   new : (h : Handling) → Each (MadeAfter b) (handled s b l k q i h).entries
@@ -233,7 +235,7 @@ sent_on : (b : Account) (l : ℕ) (e : Effect) → SentBefore b l → SentBefore
 sent_on b l e h c p m first = h c p m (record { id = first.id; sent = first.sent })
 
 same_items : (config : Config) (l k : ℕ) (f : Frame) (items : List Carried) (b : Account) (q : ℕ) → 1 ≤ config.node.retry → Stage config b l q → Each (SentYoung b f) items → Each (λ (i : Carried). InRange i.item.request) items
-    → is_live (now b l) f ≡ true → SentBefore b l → on_items keep_all config b l k q items ≡ on_items (latest config.node.retry) config b l k q items
+    → is_live (now b l) f.moment ≡ true → SentBefore b l → on_items keep_all config b l k q items ≡ on_items (latest config.node.retry) config b l k q items
 same_items config l k f [] b q some stage young in_range live sent = refl
 same_items config l k f (i ∷ is) b q some stage young in_range live sent =
     let same : on_item keep_all config b l k q i ≡ on_item (latest config.node.retry) config b l k q i =
@@ -262,7 +264,7 @@ module _ (config : Config) (a : Account) (l : ℕ) (some : 1 ≤ config.node.ret
       (λ c p m first. let g : m ≤ clock a = first_not_after a (clock a) c p m w.times.moments first in let same : now a l ≡ clock a = now_clock a l w.times.rising in omega arith)
   same_load k f (Answers head reply if_taken) given = refl
 
-  same_live : (k : ℕ) (f : Frame) → frame_at a k ≡ Some f → (b : Bool) → is_live (now a l) f ≡ b → if_live keep_all config a l k f b ≡ if_live (latest config.node.retry) config a l k f b
+  same_live : (k : ℕ) (f : Frame) → frame_at a k ≡ Some f → (b : Bool) → is_live (now a l) f.moment ≡ b → if_live keep_all config a l k f b ≡ if_live (latest config.node.retry) config a l k f b
   same_live k f at_number false is = refl
   same_live k f at_number true is = same_load k f f.load (record { is_frame = at_number; live = is; carries = refl })
 
@@ -270,7 +272,7 @@ module _ (config : Config) (a : Account) (l : ℕ) (some : 1 ≤ config.node.ret
   same_delivery k = go (frame_at a k) refl where
     go : (o : Option Frame) → frame_at a k ≡ o → on_frame keep_all config a l k o ≡ on_frame (latest config.node.retry) config a l k o
     go None is = refl
-    go (Some f) is = same_live k f is (is_live (now a l) f) refl
+    go (Some f) is = same_live k f is (is_live (now a l) f.moment) refl
 
   same_next : on_next keep_all config a (on_delivery keep_all config a l) ≡ on_next (latest config.node.retry) config a (on_delivery (latest config.node.retry) config a l)
   same_next = go (frame_at a (taken_in_order a + 1)) where

@@ -8,7 +8,8 @@ use Rattle.cl_types.specs.declared.numbers.ClientNo.{ClientNo}
 use Rattle.cl_types.specs.declared.reply.Reply.{Reply}
 use Rattle.cl_types.specs.declared.schedule.Event.{Event}
 use Rattle.cl_types.specs.declared.schedule.Event.TheVariants as event
-use Rattle.flat_model.specs.Account.{Account, Frame, Load, Asks, Answers, nothing_yet, now, frame_at, is_live, taken_in_order}
+use Rattle.cl_types.specs.Times.{is_live}
+use Rattle.flat_model.specs.Account.{Account, Frame, Load, Asks, Answers, nothing_yet, now, frame_at, taken_in_order}
 use Rattle.flat_model.specs.Client.{ClientState, Sending, new_client, same_client, poll, after_issue, after_poll, after_reply, flight_under, handed_out}
 use Rattle.flat_model.specs.Clients.{call_of, client_at, pid_of}
 use Rattle.flat_model.specs.Events.{account_from, next_account}
@@ -43,7 +44,7 @@ after_delivered false frame s = s
 -- the frame of a delivery, where there is one
 abbrev pub after_frame : ℕ → Option Frame → ClientState → ClientState
 after_frame t None s = s
-after_frame t (Some frame) s = after_delivered (is_live t frame) frame s
+after_frame t (Some frame) s = after_delivered (is_live t frame.moment) frame s
 
 -- The client after an event: its own calls and polls, and the live replies to it, are steps of the machine; all else
 -- leaves it.

@@ -9,7 +9,8 @@ use Rattle.cl_types.specs.declared.line.Entry.{Entry}
 use Rattle.cl_types.specs.declared.numbers.ClientNo.{ClientNo}
 use Rattle.cl_types.specs.declared.reply.Part.{Part}
 use Rattle.cl_types.specs.declared.schedule.Event.{Event}
-use Rattle.flat_model.specs.Account.{Account, Line, Frame, Carried, items_of, is_live, now, ticks_of}
+use Rattle.cl_types.specs.Times.{is_live}
+use Rattle.flat_model.specs.Account.{Account, Line, Frame, Carried, items_of, now, ticks_of}
 use Rattle.flat_model.specs.Clients.{first_sent}
 use Rattle.flat_model.specs.Events.{account}
 use Rattle.flat_model.specs.Properties.{CarriesPart}
@@ -34,12 +35,12 @@ pub record OfAge (a : Account) (f : Frame) (i : Carried) : Type 0 where
   pub sent : FirstAt a i.item.head.client i.part first
   pub not_before : first ≤ f.moment
   pub young : f.moment - first ≤ LAST_RESEND
-  pub live : (t : ℕ) → f.moment ≤ t → is_live t f ≡ true → t - first < SPAN
+  pub live : (t : ℕ) → f.moment ≤ t → is_live t f.moment ≡ true → t - first < SPAN
 
 -- from this moment on no request frame that carries the part is live
 abbrev pub IsGone : Account → ClientNo → Part → ℕ → Type 0
 IsGone a c p from =
-    EachItem (λ f i. CarriesPart c p i → (t : ℕ) → from ≤ t → is_live t f ≡ false) a.frames
+    EachItem (λ f i. CarriesPart c p i → (t : ℕ) → from ≤ t → is_live t f.moment ≡ false) a.frames
 
 -- from the text that gives a part up, no request frame that carries the part is live
 abbrev pub GoneFrom : Account → ℕ → Did → Type 0
@@ -50,7 +51,7 @@ GoneFrom a t other = Unit {0}
 abbrev pub IsSpent : Account → Entry → Type 0
 IsSpent a e =
     EachItem (λ f i. CarriesPart e.client e.part i
-    → (t : ℕ) → is_live t f ≡ true → t < now a e.line + SPAN) a.frames
+    → (t : ℕ) → is_live t f.moment ≡ true → t < now a e.line + SPAN) a.frames
 
 -- each item of each frame was sent young, and is live only while its part is young enough
 pub record AreOfAge (a : Account) : Type 0 where

@@ -2,7 +2,8 @@
 use Rattle.std.specs.Prelude.{ℕ, ◌≤◌, ◌≡◌, true, List}
 use Rattle.cl_types.specs.declared.config.Config.{Config}
 use Rattle.cl_types.specs.declared.schedule.Event.{Event}
-use Rattle.flat_model.specs.Account.{Account, Frame, Carried, is_live}
+use Rattle.cl_types.specs.Times.{is_live}
+use Rattle.flat_model.specs.Account.{Account, Frame, Carried}
 use Rattle.flat_model.specs.Events.{account, account_of_latest, record_of}
 use Rattle.flat_model.specs.Handling.{latest}
 use Rattle.flat_model.specs.Run.{changing_of}
@@ -12,7 +13,7 @@ use Rattle.account_laws.specs.Times.{clock, EachItem}
 -- from now on, while the frame is live, the latest changing entries tell of the item's part what all tell
 abbrev pub LatestTell : Config → Account → Frame → Carried → Type 0
 LatestTell config a f i =
-    (t : ℕ) → clock a ≤ t → is_live t f ≡ true
+    (t : ℕ) → clock a ≤ t → is_live t f.moment ≡ true
     → record_of (latest config.node.retry (changing_of a.history)) i.item.head.client i.part
     ≡ record_of (changing_of a.history) i.item.head.client i.part
 

@@ -5,3 +5,6 @@ pub mod Requests
 pub mod SmallReplies
 pub mod Config
 pub mod Spaces
+pub mod Kinds
+pub mod Parts
+pub mod Times

@@ -1,5 +1,8 @@
 //! What a client's caller asks for.
 
+ghost use Rattle.std.specs.Prelude.{◌≡◌};
+ghost use Rattle.cl_types.specs.Kinds.{kind_number};
+
 use crate::items::Bytes;
 use crate::numbers::Addr;
 
@@ -27,7 +30,7 @@ pub enum AtomicOp {
     Cas { expect: u64, put: u64 },
 }
 
-/// The kinds of requests. Their numbers in a frame are 1 to 6 in this order.
+/// The kinds of requests.
 #[derive(Clone, Copy, Debug, PartialEq, Eq)]
 pub enum Kind {
     Alloc,
@@ -36,6 +39,22 @@ pub enum Kind {
     Write,
     Atomic,
     Offload,
+}
+
+impl Kind {
+    /// The number in a request's frame.
+    pub fn number(self) -> u8
+        ensures { result ≡ kind_number self }
+    {
+        match self {
+            Kind::Alloc => 1,
+            Kind::Free => 2,
+            Kind::Read => 3,
+            Kind::Write => 4,
+            Kind::Atomic => 5,
+            Kind::Offload => 6,
+        }
+    }
 }
 
 /// A call of a client. A good one is cut into parts, and each part is a `Request`.

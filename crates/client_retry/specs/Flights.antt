@@ -2,16 +2,13 @@
 use Rattle.std.specs.Prelude.{ℕ, ◌==◌, Bool, true, false, ◌&&◌, ◌||◌, not, nat_lt, List, [], ◌∷◌, map, filter, if◌then◌else◌}
 use Rattle.std.specs.List.{list_any}
 use Rattle.cl_types.specs.declared.reply.Part.{Part}
+use Rattle.cl_types.specs.Parts.{same_part}
 use Rattle.client_retry.specs.declared.flown.Flown.{Flown}
 
 -- the parts in flight, in order of call and then of part, and the latest moment that the flight was given
 pub record Flights : Type 0 where
   pub flown : List Flown
   pub last : ℕ
-
--- both name one part of one call
-abbrev pub same_part : Part → Part → Bool
-same_part p q = p.call.0 == q.call.0 && p.part == q.part
 
 -- the part comes before the other, in order of call and then of part
 abbrev pub is_before : Part → Part → Bool

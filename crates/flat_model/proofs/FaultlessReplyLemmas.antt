@@ -8,8 +8,9 @@ use Rattle.cl_types.specs.declared.call.Kind.{Kind}
 use Rattle.cl_types.specs.declared.call.Kind.TheVariants as kind
 use Rattle.cl_types.specs.declared.reply.Reply.{Reply}
 use Rattle.cl_types.specs.Config.{is_within}
+use Rattle.cl_types.specs.Kinds.{kind_number}
 use Rattle.flat_model.specs.Ranges.{are_bytes}
-use Rattle.flat_model.specs.Frames.{is_reply_of, reply_in_body, refusal_in, status_in, status_of, reply_value, reply_checks, ok_checks, kind_number, SpellsReply, head_in, reply_in, number_32, number_64}
+use Rattle.flat_model.specs.Frames.{is_reply_of, reply_in_body, refusal_in, status_in, status_of, reply_value, reply_checks, ok_checks, SpellsReply, head_in, reply_in, number_32, number_64}
 use Rattle.flat_model.specs.FrameLaws.{FaultlessRepliesAreSpelled}
 use Rattle.flat_model.proofs.FrameLemmas.{AllPassed, kind_of_number, kind_number-numbered}
 use Rattle.flat_model.proofs.ByteLemmas.{are_bytes_drop, spell_8, spell_32, spell_64, number_64-below}

@@ -7,8 +7,9 @@ use Rattle.std.proofs.lemmas.List.{length-drop, drop_all}
 use Rattle.cl_types.specs.declared.call.Kind.{Kind}
 use Rattle.cl_types.specs.declared.call.Kind.TheVariants as kind
 use Rattle.cl_types.specs.Config.{is_within}
+use Rattle.cl_types.specs.Kinds.{kind_number}
 use Rattle.flat_model.specs.Ranges.{is_in_range, are_bytes, has_words}
-use Rattle.flat_model.specs.Frames.{request_in_body, request_body, request_checks, alloc_checks, free_checks, read_checks, write_checks, atomic_checks, offload_checks, is_op, kind_of, kind_number, perm_number, perm_in, op_in, op_spelling, number_16, number_32, number_64}
+use Rattle.flat_model.specs.Frames.{request_in_body, request_body, request_checks, alloc_checks, free_checks, read_checks, write_checks, atomic_checks, offload_checks, is_op, kind_of, perm_number, perm_in, op_in, op_spelling, number_16, number_32, number_64}
 use Rattle.flat_model.specs.FrameLaws.{FaultlessRequestsAreSpelled}
 use Rattle.flat_model.proofs.FrameLemmas.{AllPassed, kind_of_number, kind_number-numbered}
 use Rattle.flat_model.proofs.ByteLemmas.{small, are_bytes_drop, spell_8, spell_16, spell_32, spell_64, number_64-below}

@@ -2,7 +2,8 @@
 use Rattle.std.proofs.Common.{◌≡◌, ◌≤◌, ap, arith}
 use Rattle.std.specs.Prelude.{slice_index}
 use Rattle.std.proofs.lemmas.Bool.Decides.{nat_tests}
-use Rattle.flat_model.specs.Frames.{kind_of, kind_number}
+use Rattle.cl_types.specs.Kinds.{kind_number}
+use Rattle.flat_model.specs.Frames.{kind_of}
 use Rattle.flat_model.specs.FrameLaws.{NoRequestIsAReply}
 use Rattle.flat_model.proofs.RequestFrameLemmas.{request_kind}
 use Rattle.flat_model.proofs.ReplyFrameLemmas.{replies_are_read_again}

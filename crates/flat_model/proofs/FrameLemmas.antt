@@ -9,9 +9,10 @@ use Rattle.cl_types.specs.declared.call.Kind.{Kind}
 use Rattle.cl_types.specs.declared.call.Kind.TheVariants as kind
 use Rattle.cl_types.specs.declared.frame.Head.{Head}
 use Rattle.cl_types.specs.declared.numbers.TheConstants.{LAST_PID}
+use Rattle.cl_types.specs.Kinds.{kind_number}
 use Rattle.flat_model.specs.Faults.{first_fault}
 use Rattle.flat_model.specs.Ranges.{is_word}
-use Rattle.flat_model.specs.Frames.{kind_number, frame_of, head_in, IsHead, body_len, number_16, number_64, Checks, header_checks}
+use Rattle.flat_model.specs.Frames.{frame_of, head_in, IsHead, body_len, number_16, number_64, Checks, header_checks}
 
 -- ---- kinds and their numbers
 -- the kind of this number

@@ -13,7 +13,8 @@ use Rattle.cl_types.specs.declared.reply.Refusal.TheVariants.{NoMapping, NoPermi
 use Rattle.cl_types.specs.declared.reply.Reply.{Reply}
 use Rattle.cl_types.specs.declared.reply.Reply.TheVariants as reply
 use Rattle.cl_types.specs.Config.{is_within}
-use Rattle.flat_model.specs.Frames.{IsHead, reply_fault, reply_in_body, reply_value, status_in, reply_frame, reply_checks, kind_number, number_32, is_reply_of, is_range_start}
+use Rattle.cl_types.specs.Kinds.{kind_number}
+use Rattle.flat_model.specs.Frames.{IsHead, reply_fault, reply_in_body, reply_value, status_in, reply_frame, reply_checks, number_32, is_reply_of, is_range_start}
 use Rattle.flat_model.specs.FrameLaws.{ReadsAsReply, RepliesAreReadAgain, BytesSpellOneReply}
 use Rattle.flat_model.proofs.FrameLemmas.{AllPassed, first_fault-frame, head_again, word_again, one_kind}
 

@@ -14,8 +14,9 @@ use Rattle.cl_types.specs.declared.numbers.Addr.{Addr}
 use Rattle.cl_types.specs.declared.request.Request.{Request}
 use Rattle.cl_types.specs.declared.request.Request.TheVariants as request
 use Rattle.cl_types.specs.Config.{is_within}
+use Rattle.cl_types.specs.Kinds.{kind_number}
 use Rattle.flat_model.specs.Ranges.{is_in_range, is_good_address, is_piece, has_words}
-use Rattle.flat_model.specs.Frames.{request_fault, request_in_body, request_body, request_frame, request_checks, is_op, kind_of, kind_number, perm_number, perm_in, op_in, op_spelling, number_16, number_32, IsHead}
+use Rattle.flat_model.specs.Frames.{request_fault, request_in_body, request_body, request_frame, request_checks, is_op, kind_of, perm_number, perm_in, op_in, op_spelling, number_16, number_32, IsHead}
 use Rattle.flat_model.specs.FrameLaws.{ReadsAsRequest, RequestsAreReadAgain, BytesSpellOneRequest}
 use Rattle.flat_model.proofs.FrameLemmas.{AllPassed, first_fault-frame, head_again, word_again}
 

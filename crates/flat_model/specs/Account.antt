@@ -1,5 +1,5 @@
 -- The account of a schedule: its event lines, frames and history, and what they show before a line.
-use Rattle.std.specs.Prelude.{ℕ, zero, suc, ◌+◌, ◌-◌, ◌==◌, Bool, true, false, ◌&&◌, ◌||◌, not, nat_lt, List, [], ◌∷◌, ◌++◌, length, filter, sum_by, count_by, Option, None, slice_get}
+use Rattle.std.specs.Prelude.{ℕ, zero, suc, ◌+◌, ◌==◌, Bool, true, false, ◌&&◌, ◌||◌, not, nat_lt, List, [], ◌∷◌, ◌++◌, length, filter, sum_by, count_by, Option, None, slice_get}
 use Rattle.std.specs.List.{list_any}
 use Rattle.cl_types.specs.declared.config.Config.{Config}
 use Rattle.cl_types.specs.declared.frame.End.{End}
@@ -13,7 +13,6 @@ use Rattle.cl_types.specs.declared.line.Did.TheVariants as did
 use Rattle.cl_types.specs.declared.line.EndedCall.{EndedCall}
 use Rattle.cl_types.specs.declared.line.Entry.{Entry}
 use Rattle.cl_types.specs.declared.reply.Part.{Part}
-use Rattle.cl_types.specs.declared.limits.TheConstants.{LIFE}
 use Rattle.flat_model.specs.State.{FlatState, opening}
 use Rattle.flat_model.specs.Frames.{Item}
 use Rattle.flat_model.specs.Run.{after, changing_of}
@@ -88,10 +87,6 @@ frame_at a (suc k) = slice_get a.frames k
 -- the number of the next frame that is sent
 abbrev pub next_frame_number : Account → ℕ
 next_frame_number a = length a.frames + 1
-
--- at moment t the frame was sent fewer than 100 ticks ago
-abbrev pub is_live : ℕ → Frame → Bool
-is_live t frame = nat_lt (t - frame.moment) LIFE
 
 -- the event asks for the next frame
 abbrev pub asks_next : Event → Bool

@@ -1,5 +1,5 @@
 -- A client as a machine of its own: what it holds, and what each of its calls leaves.
-use Rattle.std.specs.Prelude.{ℕ, ◌+◌, ◌-◌, ◌==◌, Bool, true, false, ◌&&◌, not, nat_lt, leb, List, [], ◌∷◌, ◌++◌, length, map, drop, take, filter, filter_map, flat_map, Option, Some, None, is_none, if◌then◌else◌, slice_get, find, option_map, unwrap_or}
+use Rattle.std.specs.Prelude.{ℕ, ◌+◌, ◌==◌, Bool, true, false, ◌&&◌, not, nat_lt, List, [], ◌∷◌, ◌++◌, length, map, drop, take, filter, filter_map, flat_map, Option, Some, None, is_none, if◌then◌else◌, slice_get, find, option_map, unwrap_or}
 use Rattle.std.specs.List.{enumerate_from}
 use Rattle.cl_types.specs.declared.numbers.ClientNo.{ClientNo}
 use Rattle.cl_types.specs.declared.frame.Head.{Head}
@@ -13,17 +13,15 @@ use Rattle.cl_types.specs.declared.reply.Answer.TheVariants as answer
 use Rattle.cl_types.specs.declared.reply.Value.TheVariants as value
 use Rattle.cl_types.specs.declared.line.EndedCall.{EndedCall}
 use Rattle.cl_types.specs.Bytes.{zeros}
-use Rattle.cl_types.specs.declared.limits.TheConstants.{TIMEOUT, LAST_RESEND, SPAN, PARTS_IN_FLIGHT}
+use Rattle.cl_types.specs.declared.limits.TheConstants.{PARTS_IN_FLIGHT}
+use Rattle.cl_types.specs.Parts.{same_part}
+use Rattle.cl_types.specs.Times.{is_old, is_due}
 use Rattle.flat_model.specs.Cut.{cut, Ending, Replied, GivenUp, combine, handed_back}
 use Rattle.flat_model.specs.Order.{is_fence, Footprint, footprint, may_go, ready_in}
 
 -- the two numbers are of one client
 abbrev pub same_client : ClientNo → ClientNo → Bool
 same_client c d = c.0 == d.0
-
--- both name one part of one call
-abbrev pub same_part : Part → Part → Bool
-same_part p q = p.call.0 == q.call.0 && p.part == q.part
 
 -- ---- the state
 -- how a part stands: in flight under the id of its first sending, when first sent, and when last
@@ -225,17 +223,9 @@ pub data Polled : Type 0 where
   Sends : (items : List Outgoing) → Polled
   Idles : Polled
 
--- the part in flight is to be given up: it was first sent 400 ticks ago or earlier
-abbrev pub is_old : ℕ → Sending → Bool
-is_old t f = leb SPAN (t - f.first)
-
--- the part in flight is to be sent again: last sent at least 100 ticks ago, first sent at most 300 ticks ago
-abbrev pub is_due : ℕ → Sending → Bool
-is_due t f = leb TIMEOUT (t - f.last) && leb (t - f.first) LAST_RESEND
-
 -- 1. a part in flight that is old enough is given up, the first in order of issue and then of part
 abbrev pub to_give_up : ClientState → ℕ → Option Polled
-to_give_up s t = option_map GivesUp (find (is_old t) (flights s))
+to_give_up s t = option_map GivesUp (find (λ f. is_old t f.first) (flights s))
 
 -- 2. a Fence whose earlier calls have all ended ends: it is the first call that has not
 abbrev pub fence_first : List ClientCall → Option Polled
@@ -248,7 +238,7 @@ again id f = record { part = f.part; request = f.request; id = id; orig = f.orig
 
 -- 3. a part in flight that is due is sent again, under a new id
 abbrev pub to_send_again : ClientState → ℕ → Option Polled
-to_send_again s t = option_map (λ f. Sends (again (next_id s) f ∷ [])) (find (is_due t) (flights s))
+to_send_again s t = option_map (λ f. Sends (again (next_id s) f ∷ [])) (find (λ f. is_due t f.first f.last) (flights s))
 
 -- an unsent part, as it goes out under this id, which is its orig too
 abbrev pub anew : ℕ → ClientPart → Outgoing

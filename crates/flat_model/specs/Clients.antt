@@ -15,10 +15,11 @@ use Rattle.cl_types.specs.declared.line.Did.TheVariants as did
 use Rattle.cl_types.specs.declared.reply.Part.{Part}
 use Rattle.cl_types.specs.declared.request.Request.{Request}
 use Rattle.cl_types.specs.Bytes.{zeros}
+use Rattle.cl_types.specs.Parts.{same_part}
 use Rattle.flat_model.specs.Cut.{cut, Ending, Replied, GivenUp}
 use Rattle.flat_model.specs.Order.{is_fence}
 use Rattle.flat_model.specs.Account.{Account, Line, Load, Asks, Answers, frame_at}
-use Rattle.flat_model.specs.Client.{Standing, Unsent, InFlight, Over, ClientState, ClientCall, same_client, same_part, call_standing, finished}
+use Rattle.flat_model.specs.Client.{Standing, Unsent, InFlight, Over, ClientState, ClientCall, same_client, call_standing, finished}
 
 -- the bytes that stand written
 abbrev pub expanded : Written → List ℕ

@@ -18,12 +18,14 @@ use Rattle.cl_types.specs.declared.schedule.Event.TheVariants as event
 use Rattle.cl_types.specs.declared.line.Did.{Did}
 use Rattle.cl_types.specs.declared.line.Did.TheVariants as did
 use Rattle.cl_types.specs.declared.line.Entry.{Entry}
+use Rattle.cl_types.specs.Parts.{same_part}
+use Rattle.cl_types.specs.Times.{is_live}
 use Rattle.flat_model.specs.Pages.{page_of, offset_of}
 use Rattle.flat_model.specs.State.{FlatState, Page, page_at, bytes_of, used}
 use Rattle.flat_model.specs.Frames.{request_frame, reply_frame, request_fault, reply_fault, kind_of, status_in}
-use Rattle.flat_model.specs.Client.{ClientState, Sending, Outgoing, head_of, Polled, GivesUp, EndsFence, Sends, Idles, poll, after_poll, after_reply, end_told, flight_under, same_client, same_part}
+use Rattle.flat_model.specs.Client.{ClientState, Sending, Outgoing, head_of, Polled, GivesUp, EndsFence, Sends, Idles, poll, after_poll, after_reply, end_told, flight_under, same_client}
 use Rattle.flat_model.specs.Issue.{issue_fault}
-use Rattle.flat_model.specs.Account.{Account, Frame, Carried, Load, Asks, Answers, Effect, nothing_yet, now, frame_at, next_frame_number, is_live, taken_in_order, memory_at, recorded, says, joined_by, extended}
+use Rattle.flat_model.specs.Account.{Account, Frame, Carried, Load, Asks, Answers, Effect, nothing_yet, now, frame_at, next_frame_number, taken_in_order, memory_at, recorded, says, joined_by, extended}
 use Rattle.flat_model.specs.Clients.{call_of, expanded, client_at}
 use Rattle.flat_model.specs.Handling.{Handling, Repeats, RefusesForNow, Executes, Looks, handling, item_outcome, latest, oldest_of}
 
@@ -185,7 +187,7 @@ module _ (keep : List Entry → List Entry) (config : Config) where
   -- what the frame of number k brings where one was sent, and else that it is absent
   abbrev pub on_frame : Account → ℕ → ℕ → Option Frame → Effect
   on_frame a l k None = says (did.Absent k)
-  on_frame a l k (Some frame) = if_live a l k frame (is_live (now a l) frame)
+  on_frame a l k (Some frame) = if_live a l k frame (is_live (now a l) frame.moment)
 
   -- what the delivery of frame k on line l brings
   abbrev pub on_delivery : Account → ℕ → ℕ → Effect

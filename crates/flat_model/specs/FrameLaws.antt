@@ -5,8 +5,9 @@ use Rattle.cl_types.specs.declared.numbers.ClientNo.{ClientNo}
 use Rattle.cl_types.specs.declared.frame.Head.{Head}
 use Rattle.cl_types.specs.declared.request.Request.{Request}
 use Rattle.cl_types.specs.declared.reply.Reply.{Reply}
+use Rattle.cl_types.specs.Kinds.{kind_number}
 use Rattle.flat_model.specs.Ranges.{are_bytes}
-use Rattle.flat_model.specs.Frames.{Item, SpellsRequest, SpellsReply, SpellsFrame, request_fault, reply_fault, head_in, request_in, reply_in, items_in, kind_number}
+use Rattle.flat_model.specs.Frames.{Item, SpellsRequest, SpellsReply, SpellsFrame, request_fault, reply_fault, head_in, request_in, reply_in, items_in}
 
 -- a node that reads the bytes finds no fault, this head and this body
 pub record ReadsAsRequest (bytes : List ℕ) (head : Head) (body : Request) : Type 0 where

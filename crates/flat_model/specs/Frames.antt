@@ -21,6 +21,7 @@ use Rattle.cl_types.specs.declared.reply.Reply.{Reply}
 use Rattle.cl_types.specs.declared.reply.Reply.TheVariants as reply
 use Rattle.cl_types.specs.Bytes.{bytes_at}
 use Rattle.cl_types.specs.Config.{is_within}
+use Rattle.cl_types.specs.Kinds.{kind_number}
 use Rattle.cl_types.specs.declared.limits.TheConstants.{ADDRESS_END, PAGE_BYTES, PART_BYTES, RANGE_PAGES, SPACE_PAGES}
 use Rattle.cl_types.specs.declared.numbers.TheConstants.{LAST_PID}
 use Rattle.flat_model.specs.Faults.{first_fault}
@@ -35,15 +36,6 @@ kind_of (request.Read addr len) = kind.Read
 kind_of (request.Write addr bytes) = kind.Write
 kind_of (request.Atomic addr op) = kind.Atomic
 kind_of (request.Offload number op out bytes) = kind.Offload
-
--- the byte of a kind in a request's frame, 1 to 6; a reply's is 128 more
-abbrev pub kind_number : Kind → ℕ
-kind_number kind.Alloc = 1
-kind_number kind.Free = 2
-kind_number kind.Read = 3
-kind_number kind.Write = 4
-kind_number kind.Atomic = 5
-kind_number kind.Offload = 6
 
 -- the byte of a permission in a frame, 1 to 3
 abbrev pub perm_number : Perm → ℕ

@@ -1,7 +1,7 @@
 -- What a node does with an item of a frame, in an account and alone.
-use Rattle.std.specs.Prelude.{ℕ, zero, suc, ◌-◌, Bool, true, false, leb, nat_lt, List, length, drop, Option, Some, None, if◌then◌else◌, slice_get}
-use Rattle.cl_types.specs.declared.limits.TheConstants.{SPAN}
+use Rattle.std.specs.Prelude.{ℕ, zero, suc, ◌-◌, Bool, true, false, leb, List, length, drop, Option, Some, None, if◌then◌else◌, slice_get}
 use Rattle.cl_types.specs.declared.reply.Reply.{Reply}
+use Rattle.cl_types.specs.Times.{is_young}
 use Rattle.flat_model.specs.Frames.{Item}
 use Rattle.flat_model.specs.State.{FlatState}
 use Rattle.flat_model.specs.Step.{Outcome, outcome}
@@ -25,10 +25,6 @@ pub data Handling : Type 0 where
   RefusesForNow : (oldest : ℕ) → Handling
   Executes : Handling
   Looks : Handling
-
--- a reply that was recorded then is younger than 400 ticks at moment t
-abbrev pub is_young : ℕ → ℕ → Bool
-is_young t recorded = nat_lt (t - recorded) SPAN
 
 -- busy where the oldest record is young, and else executed
 abbrev pub if_young : Bool → ℕ → Handling

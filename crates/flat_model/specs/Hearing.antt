@@ -6,7 +6,8 @@ use Rattle.cl_types.specs.declared.request.Request.{Request}
 use Rattle.cl_types.specs.declared.request.Request.TheVariants as request
 use Rattle.cl_types.specs.declared.reply.Reply.{Reply}
 use Rattle.cl_types.specs.declared.reply.Reply.TheVariants as reply
-use Rattle.flat_model.specs.Frames.{reply_fault, reply_in, head_in, kind_of, kind_number}
+use Rattle.cl_types.specs.Kinds.{kind_number}
+use Rattle.flat_model.specs.Frames.{reply_fault, reply_in, head_in, kind_of}
 use Rattle.flat_model.specs.Client.{ClientState, Sending, same_client, flight_under, after_reply}
 
 -- what a client hears in bytes: a fault, another client's reply, a late one, one that doesn't fit, or one to take

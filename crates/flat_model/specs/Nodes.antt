@@ -9,9 +9,10 @@ use Rattle.cl_types.specs.declared.frame.BadFrame.{BadFrame}
 use Rattle.cl_types.specs.declared.frame.How.{How}
 use Rattle.cl_types.specs.declared.frame.How.TheVariants.{Executed, Repeated, Looked}
 use Rattle.cl_types.specs.declared.reply.Reply.{Reply}
+use Rattle.cl_types.specs.Kinds.{kind_number}
 use Rattle.flat_model.specs.State.{FlatState, opening}
 use Rattle.flat_model.specs.Step.{Outcome}
-use Rattle.flat_model.specs.Frames.{Item, items_in, request_fault, kind_of, kind_number}
+use Rattle.flat_model.specs.Frames.{Item, items_in, request_fault, kind_of}
 use Rattle.flat_model.specs.Client.{same_client}
 use Rattle.flat_model.specs.Handling.{Handling, Repeats, RefusesForNow, Executes, Looks, handling, item_outcome, latest, oldest_of}
 

@@ -16,10 +16,11 @@ use Rattle.cl_types.specs.declared.line.Did.{Did}
 use Rattle.cl_types.specs.declared.line.Did.TheVariants as did
 use Rattle.cl_types.specs.declared.line.EndedCall.{EndedCall}
 use Rattle.cl_types.specs.declared.line.Entry.{Entry}
+use Rattle.cl_types.specs.Times.{is_live}
 use Rattle.flat_model.specs.Cut.{Ending, Replied, combine, answer_bytes}
 use Rattle.flat_model.specs.Order.{depends}
 use Rattle.flat_model.specs.Client.{every, parts_named}
-use Rattle.flat_model.specs.Account.{Account, Line, Frame, Carried, frame_at, items_of, is_live, is_before, memory_at}
+use Rattle.flat_model.specs.Account.{Account, Line, Frame, Carried, frame_at, items_of, is_before, memory_at}
 use Rattle.flat_model.specs.Clients.{issued, call_at, request_of_part, pid_of}
 use Rattle.flat_model.specs.Events.{record_of, on_peek}
 
@@ -65,7 +66,7 @@ pub record StandsAt (a : Account) (e : Entry) : Type 0 where
   pub frame_number : ℕ
   pub frame : Frame
   pub is_frame : frame_at a frame_number ≡ Some frame
-  pub live : is_live line.moment frame ≡ true
+  pub live : is_live line.moment frame.moment ≡ true
   pub item : Carried
   pub at_position : slice_get (items_of frame.load) e.position ≡ Some item
   pub carries : CarriesPart e.client e.part item

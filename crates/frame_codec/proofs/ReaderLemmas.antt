@@ -13,9 +13,10 @@ use Rattle.cl_types.specs.declared.frame.BadFrame.{BadFrame}
 use Rattle.cl_types.specs.declared.frame.Head.{Head}
 use Rattle.cl_types.specs.declared.request.Request.{Request}
 use Rattle.cl_types.specs.declared.reply.Reply.{Reply}
+use Rattle.cl_types.specs.Kinds.{kind_number}
 use Rattle.flat_model.specs.Faults.{first_fault}
 use Rattle.flat_model.specs.Ranges.{are_bytes}
-use Rattle.flat_model.specs.Frames.{Checks, SpellsRequest, SpellsReply, body_len, header_checks, head_in, kind_number, request_checks, request_fault, request_in_body, reply_checks, reply_fault, reply_in, reply_in_body}
+use Rattle.flat_model.specs.Frames.{Checks, SpellsRequest, SpellsReply, body_len, header_checks, head_in, request_checks, request_fault, request_in_body, reply_checks, reply_fault, reply_in, reply_in_body}
 use Rattle.flat_model.specs.FrameLaws.{ReadsAsRequest, ReadsAsReply}
 use Rattle.flat_model.proofs.FrameLemmas.{one_kind}
 use Rattle.flat_model.proofs.RequestFrameLemmas.{requests_are_read_again, bytes_spell_one_request}

@@ -3,8 +3,9 @@
 ghost use Rattle.std.specs.Prelude.{◌≡◌, ◌+◌, ◌≤◌, ◌++◌, drop, length, IfOk, IfSome, is_some};
 ghost use Rattle.std.specs.Result.{result_err};
 ghost use Rattle.cl_types.specs.Config.{is_within};
+ghost use Rattle.cl_types.specs.Kinds.{kind_number};
 ghost use Rattle.flat_model.specs.Faults.{first_fault};
-ghost use Rattle.flat_model.specs.Frames.{head_in, header_checks, kind_number};
+ghost use Rattle.flat_model.specs.Frames.{head_in, header_checks};
 ghost use Rattle.frame_codec.specs.Parts.{IsHeaderOf, head_checks, header_of};
 
 use crate::places::{put_u16, put_u64, u16_at, u64_at};
@@ -106,20 +107,6 @@ pub fn read_header(base: u8, bytes: &[u8]) -> Result<Header, BadFrame>
     }
     let head = read_head(bytes)?;
     Ok(Header { kind, head })
-}
-
-/// The number of the kind in a request's frame.
-pub fn kind_number(kind: Kind) -> u8
-    ensures { result ≡ kind_number kind }
-{
-    match kind {
-        Kind::Alloc => 1,
-        Kind::Free => 2,
-        Kind::Read => 3,
-        Kind::Write => 4,
-        Kind::Atomic => 5,
-        Kind::Offload => 6,
-    }
 }
 
 /// Writes the header of a frame whose kind has this number and whose body has `len` bytes.

@@ -4,14 +4,15 @@ ghost use Rattle.std.specs.Prelude.{◌≡◌, ◌+◌, ◌≤◌, ◌++◌, dro
 ghost use Rattle.cl_types.specs.Bytes.{bytes_at};
 ghost use Rattle.cl_types.specs.Requests.{reply_of};
 ghost use Rattle.cl_types.specs.declared.reply.Reply.TheVariants as owned;
-ghost use Rattle.flat_model.specs.Frames.{IsHead, is_reply_of, kind_number, reply_frame, reply_value, status_of};
+ghost use Rattle.flat_model.specs.Frames.{IsHead, is_reply_of, reply_frame, reply_value, status_of};
 ghost use Rattle.frame_codec.specs.Parts.{reply_body};
 ghost use Rattle.frame_codec.specs.Writing.{IsWritten, may_carry};
 
-use crate::headers::{HEADER_BYTES, REPLY, kind_number, write_header};
+use crate::headers::{HEADER_BYTES, REPLY, write_header};
 use crate::places::{put_u32, put_u64};
 use cl_types::call::Kind;
 use cl_types::frame::Head;
+use cl_types::limits::{FRAME_ROOM, PART_BYTES};
 use cl_types::reply::{Refusal, ReplyRef};
 
 /// The status of a refusal.
@@ -33,7 +34,7 @@ fn status_of(refusal: Refusal) -> u8
 /// Writes the status and the value of a reply, and tells how many bytes they have.
 fn write_body(body: &ReplyRef, out: &mut [u8]) -> usize
     requires room { 1025 ≤ length out.old }
-    requires short { length (reply_value (reply_of body.now)) ≤ 1024 }
+    requires short { length (reply_value (reply_of body.now)) ≤ PART_BYTES }
     ensures len { result ≡ length (reply_body (reply_of body.now)) }
     ensures short { result ≤ 1025 }
     ensures written { out.new ≡ reply_body (reply_of body.now) ++ drop result out.old }
@@ -63,7 +64,7 @@ fn write_body(body: &ReplyRef, out: &mut [u8]) -> usize
 /// Writes a reply to a request of this kind at the start of `out`, and tells how many bytes it has.
 /// The rest of `out` stays.
 pub fn write_reply(head: &Head, kind: Kind, body: &ReplyRef, out: &mut [u8]) -> usize
-    requires room { 1200 ≤ length out.old }
+    requires room { FRAME_ROOM ≤ length out.old }
     requires head { IsHead head.now }
     requires body { IsTrue (is_reply_of kind (reply_of body.now)) }
     ensures short { result ≤ 1051 }
@@ -71,14 +72,14 @@ pub fn write_reply(head: &Head, kind: Kind, body: &ReplyRef, out: &mut [u8]) -> 
         IsWritten frame result out.old out.new }
 {
     let len = write_body(body, &mut out[HEADER_BYTES..]);
-    write_header(REPLY + kind_number(kind), head, len as u16, out);
+    write_header(REPLY + kind.number(), head, len as u16, out);
     HEADER_BYTES + len
 }
 
 /// Writes the reply to a Read or an Offload whose `len` bytes stand in `out` already, from place 27
 /// on, and tells how many bytes it has. All bytes from place 27 on stay.
 pub fn write_got(head: &Head, kind: Kind, len: usize, out: &mut [u8]) -> usize
-    requires room { 1200 ≤ length out.old }
+    requires room { FRAME_ROOM ≤ length out.old }
     requires head { IsHead head.now }
     requires len { IsTrue (may_carry kind len) }
     ensures len { result ≡ 27 + len }
@@ -88,6 +89,6 @@ pub fn write_got(head: &Head, kind: Kind, len: usize, out: &mut [u8]) -> usize
     ensures kept { drop 27 out.new ≡ drop 27 out.old }
 {
     out[HEADER_BYTES] = 0;
-    write_header(REPLY + kind_number(kind), head, 1 + len as u16, out);
+    write_header(REPLY + kind.number(), head, 1 + len as u16, out);
     HEADER_BYTES + (1 + len)
 }

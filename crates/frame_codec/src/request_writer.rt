@@ -3,16 +3,20 @@
 ghost use Rattle.std.specs.Prelude.{◌≡◌, ◌+◌, ◌≤◌, ◌++◌, drop, length, take, IsTrue};
 ghost use Rattle.cl_types.specs.Requests.{request_of};
 ghost use Rattle.cl_types.specs.declared.request.Request.TheVariants as owned;
-ghost use Rattle.flat_model.specs.Frames.{IsHead, kind_number, kind_of, op_spelling, perm_number, request_body, request_frame};
+ghost use Rattle.flat_model.specs.Frames.{IsHead, kind_of, op_spelling, perm_number, request_body, request_frame};
 ghost use Rattle.flat_model.specs.Ranges.{is_in_range};
 ghost use Rattle.frame_codec.specs.Writing.{IsWritten};
 
-use crate::headers::{HEADER_BYTES, kind_number, write_header};
+use crate::headers::{HEADER_BYTES, write_header};
 use crate::places::{put_u16, put_u32, put_u64};
 use cl_types::call::{AtomicOp, Kind, Perm};
 use cl_types::frame::Head;
+use cl_types::limits::{FRAME_ROOM, PART_BYTES};
 use cl_types::numbers::Addr;
 use cl_types::request::RequestRef;
+
+// There is room for the longest frame: a header, an address, and the bytes of a part.
+const _: () = prove!(HEADER_BYTES + 4 + PART_BYTES as usize <= FRAME_ROOM);
 
 /// The kind of a request.
 fn kind_of(body: &RequestRef) -> Kind
@@ -134,7 +138,7 @@ fn write_body(body: &RequestRef, out: &mut [u8]) -> usize
 /// Writes a request at the start of `out`, and tells how many bytes it has. The rest of `out`
 /// stays.
 pub fn write_request(head: &Head, body: &RequestRef, out: &mut [u8]) -> usize
-    requires room { 1200 ≤ length out.old }
+    requires room { FRAME_ROOM ≤ length out.old }
     requires head { IsHead head.now }
     requires body { IsTrue (is_in_range (request_of body.now)) }
     ensures short { result ≤ 1054 }
@@ -142,6 +146,6 @@ pub fn write_request(head: &Head, body: &RequestRef, out: &mut [u8]) -> usize
         IsWritten frame result out.old out.new }
 {
     let len = write_body(body, &mut out[HEADER_BYTES..]);
-    write_header(kind_number(kind_of(body)), head, len as u16, out);
+    write_header(kind_of(body).number(), head, len as u16, out);
     HEADER_BYTES + len
 }

@@ -1,7 +1,6 @@
 -- What a contract sees of a link, and what its calls do to that.
-use Rattle.std.specs.Prelude.{ℕ, zero, suc, ◌+◌, ◌-◌, Bool, nat_lt, List, [], ◌∷◌, ◌++◌, length, Option, Some, None, if◌then◌else◌, slice_get}
+use Rattle.std.specs.Prelude.{ℕ, zero, suc, ◌+◌, Bool, nat_lt, List, [], ◌∷◌, ◌++◌, length, Option, Some, None, if◌then◌else◌, slice_get}
 use Rattle.cl_types.specs.declared.frame.End.{End}
-use Rattle.cl_types.specs.declared.limits.TheConstants.{LIFE}
 
 -- a frame that was sent: when, to which end, its bytes, and on which line
 pub record SentFrame : Type 0 where
@@ -23,10 +22,6 @@ sent_on link frame = record link { frames = link.frames ++ frame ∷ [] }
 abbrev pub frame_at : LinkFrames → ℕ → Option SentFrame
 frame_at link zero = None
 frame_at link (suc k) = slice_get link.frames k
-
--- at moment t the frame was sent fewer than 100 ticks ago
-abbrev pub is_live : ℕ → SentFrame → Bool
-is_live t frame = nat_lt (t - frame.moment) LIFE
 
 -- a frame is not yet handed out
 abbrev pub has_next : LinkFrames → Bool

@@ -1,6 +1,6 @@
 -- The chains in which names are looked for. No public clause cites this module.
 use Rattle.std.specs.Prelude.{ℕ, ◌+◌, ◌*◌, ◌/◌, ◌%◌, ◌^◌}
-use Rattle.flat_model.specs.Frames.{kind_number}
+use Rattle.cl_types.specs.Kinds.{kind_number}
 use Rattle.flat_model.specs.Nodes.{Name}
 use Rattle.retry_buffer.specs.declared.chain.TheConstants.{NEIGHBOURS, SENDER, STEP}
 

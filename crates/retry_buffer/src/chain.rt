@@ -1,7 +1,6 @@
 //! The chain in which a name is looked for.
 
 ghost use Rattle.std.specs.Prelude.{◌≡◌, ◌<◌, ◌≤◌, ◌+◌};
-ghost use Rattle.flat_model.specs.Frames.{kind_number};
 ghost use Rattle.retry_buffer.specs.Chains.{chain_of};
 
 use cl_types::call::Kind;
@@ -25,25 +24,11 @@ pub fn chain_of(client: ClientNo, kind: Kind, orig: u64, capacity: u32) -> u32
     ensures chain { result ≡ chain_of capacity (record { client = client; kind = kind; orig = orig }) }
     ensures below { result < capacity + 7 }
 {
-    let sender = client.0 as u64 * 8 + kind_number(kind);
+    let sender = client.0 as u64 * 8 + u64::from(kind.number());
     let hash = (orig / NEIGHBOURS)
         .wrapping_mul(STEP)
         .wrapping_add(sender.wrapping_mul(SENDER));
     // The leading 32 bits of the hash, scaled to the capacity.
     let first = hash / (1 << 32) * capacity as u64 / (1 << 32);
     (first + orig % NEIGHBOURS) as u32
-}
-
-/// The number of a kind in a frame.
-pub fn kind_number(kind: Kind) -> u64
-    ensures { result ≡ kind_number kind }
-{
-    match kind {
-        Kind::Alloc => 1,
-        Kind::Free => 2,
-        Kind::Read => 3,
-        Kind::Write => 4,
-        Kind::Atomic => 5,
-        Kind::Offload => 6,
-    }
 }

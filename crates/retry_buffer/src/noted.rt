@@ -4,7 +4,6 @@ ghost use Rattle.std.specs.Prelude.{◌≡◌};
 ghost use Rattle.flat_model.specs.Nodes.{same_name};
 ghost use Rattle.retry_buffer.specs.Kept.{name_of};
 
-use crate::chain::kind_number;
 use cl_types::call::Kind;
 use cl_types::numbers::ClientNo;
 use cl_types::small_reply::SmallReply;
@@ -26,6 +25,6 @@ impl Noted {
     pub fn is_of(&self, client: ClientNo, kind: Kind, orig: u64) -> bool
         ensures { result ≡ same_name (record { client = client; kind = kind; orig = orig }) (name_of self.now) }
     {
-        client == self.client && kind_number(kind) == kind_number(self.kind) && orig == self.orig
+        client == self.client && kind.number() == self.kind.number() && orig == self.orig
     }
 }

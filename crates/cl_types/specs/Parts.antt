@@ -1,0 +1,7 @@
+-- Which part of a call is meant.
+use Rattle.std.specs.Prelude.{◌==◌, Bool, ◌&&◌}
+use Rattle.cl_types.specs.declared.reply.Part.{Part}
+
+-- both name one part of one call
+abbrev pub same_part : Part → Part → Bool
+same_part p q = p.call.0 == q.call.0 && p.part == q.part
