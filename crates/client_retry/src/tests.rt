@@ -1,12 +1,16 @@
 //! Values from outside, and each call once.
 
+ghost use Rattle.std.specs.Prelude.{◌≡◌};
+
 use crate::{Due, Flight};
 use cl_types::numbers::CallNo;
 use cl_types::reply::Part;
 use std::test::Fail;
 
 /// Part `part` of a call.
-fn part(call: u32, part: u16) -> Part {
+fn part(call: u32, part: u16) -> Part
+    ensures { result ≡ record { call = record { 0 = call }; part = part } }
+{
     Part {
         call: CallNo(call),
         part,
@@ -33,8 +37,12 @@ fn a_part_is_sent_again_up_to_age_300_and_given_up_at_400(rt: HostRuntime) -> Re
         first_sent: 0,
     };
     assert_eq!(rt; flight.due(400), give_up);
+    flight.resent(2, 100);
+    assert_eq!(rt; flight.due(199), Due::Nothing);
+    assert_eq!(rt; flight.due(200), again);
     flight.resent(2, 300);
     assert_eq!(rt; flight.due(399), Due::Nothing);
+    assert_eq!(rt; flight.due(400), give_up);
     Ok(())
 }
 
@@ -53,8 +61,15 @@ fn a_heard_part_is_no_longer_in_flight(rt: HostRuntime) -> Result<(), Fail> {
 #[test]
 fn a_part_that_is_given_up_leaves_the_others(rt: HostRuntime) -> Result<(), Fail> {
     let mut flight = Flight::create(rt.alloc())?;
-    flight.sent(part(1, 0), 1, 0);
-    flight.give_up(1);
-    assert_eq!(rt; flight.count(), 0);
+    flight.sent(part(2, 0), 1, 0);
+    flight.sent(part(1, 1), 2, 0);
+    let first = Due::Resend {
+        part: part(1, 1),
+        orig: 2,
+    };
+    assert_eq!(rt; flight.due(100), first);
+    flight.give_up(2);
+    assert_eq!(rt; flight.count(), 1);
+    assert_eq!(rt; flight.part_of(1), Some(part(2, 0)));
     Ok(())
 }

@@ -1,3 +1,4 @@
+-- The next place is in no list yet.
 use Rattle.std.proofs.Common.{subst, sym}
 use Rattle.index_lists.specs.NodeLists.{IsFree}
 use Rattle.client_retry.proofs.Made.{next_free, free_more}

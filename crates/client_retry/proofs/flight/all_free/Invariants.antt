@@ -1,3 +1,4 @@
+-- The places so far are free, in their order.
 use Rattle.std.proofs.Common.{◌≡◌}
 use Rattle.index_lists.specs.NodeLists.{IsValid}
 use Rattle.client_retry.proofs.Made.{with_free}

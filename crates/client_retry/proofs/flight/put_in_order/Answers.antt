@@ -1,3 +1,4 @@
+-- The place comes right before the first part that is behind the new one.
 use Rattle.std.proofs.Common.{ap, sym, ◌∙◌}
 use Rattle.index_lists.specs.NodeLists.{list_at, with_list}
 use Rattle.client_retry.specs.Walks.{wanted_at}

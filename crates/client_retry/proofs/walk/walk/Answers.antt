@@ -1,3 +1,4 @@
+-- The walk stops at the first place with the wanted part, or at the end of the list.
 use Rattle.std.proofs.Common.{sym, ap, ◌∙◌, arith}
 use Rattle.index_lists.specs.NodeLists.{list_at}
 use Rattle.client_retry.specs.Walks.{is_wanted_there}

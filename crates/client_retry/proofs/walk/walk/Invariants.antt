@@ -1,3 +1,4 @@
+-- So far no place on the way had the wanted part.
 use Rattle.index_lists.specs.NodeLists.{list_at}
 use Rattle.client_retry.specs.Walks.{wanted_at}
 use Rattle.client_retry.proofs.WalkLemmas.{HasCome}

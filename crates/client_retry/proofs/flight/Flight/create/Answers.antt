@@ -1,3 +1,4 @@
+-- All places are free, and all chains are empty.
 use Rattle.client_retry.proofs.Made.{made_sound}
 use Rattle.client_retry.proofs.flight.Flight.create.Goals as goal
 

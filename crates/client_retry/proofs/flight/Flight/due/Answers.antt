@@ -1,3 +1,4 @@
+-- What a walk in order of call and part finds is the first such part.
 use Rattle.std.proofs.Common.{Some, option_map, ap, sym, ◌∙◌}
 use Rattle.client_retry.specs.Fields.{flown_at}
 use Rattle.client_retry.specs.declared.walk.Wanted.TheVariants.{Old, Due}

@@ -1,3 +1,4 @@
+-- The place leaves its chain and the parts in flight, and is free again.
 use Rattle.std.proofs.Common.{refl, ◌-◌, Some, option_map, ap, sym, subst, ◌∙◌, arith}
 use Rattle.index_lists.specs.NodeLists.{list_at}
 use Rattle.client_retry.specs.declared.flown.Flown.{Flown}

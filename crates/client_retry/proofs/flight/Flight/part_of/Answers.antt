@@ -1,3 +1,4 @@
+-- The chain of the orig has the place of its part, and of no other.
 use Rattle.std.proofs.Common.{refl, Some, option_map, ap, sym, ◌∙◌}
 use Rattle.client_retry.specs.declared.flown.Flown.{Flown}
 use Rattle.client_retry.specs.Fields.{chain_of, flown_at}

@@ -1,3 +1,4 @@
+-- The chain of the orig has its part, whose last moment alone changes.
 use Rattle.std.proofs.Common.{refl, Some, option_map, set, ap, sym, ◌∙◌}
 use Rattle.client_retry.specs.declared.flown.Flown.{Flown}
 use Rattle.client_retry.specs.Fields.{chain_of, flown_at}

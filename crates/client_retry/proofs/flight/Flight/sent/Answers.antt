@@ -1,3 +1,4 @@
+-- A free place takes the part, and its fields stand for the parts with one more.
 use Rattle.std.proofs.Common.{◌+◌, ◌∷◌, ◌++◌, [], ap, sym, subst, ◌∙◌, arith}
 use Rattle.std.specs.List.{position_or_len}
 use Rattle.index_lists.specs.NodeLists.{list_at, with_list}

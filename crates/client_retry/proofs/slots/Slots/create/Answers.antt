@@ -1,3 +1,4 @@
+-- A new slab has room for a part at each place.
 use Rattle.client_retry.proofs.SlotLemmas.{none_kept}
 use Rattle.client_retry.proofs.slots.Slots.create.Goals as goal
 

@@ -1,3 +1,4 @@
+-- There is room for a part where a place has none, and then the place has it.
 use Rattle.std.proofs.Common.{ap, ◌∙◌, set, Some}
 use Rattle.client_retry.specs.Slots.{slot_at}
 use Rattle.client_retry.proofs.SlotLemmas.{room_left, put_seen, put_kept}

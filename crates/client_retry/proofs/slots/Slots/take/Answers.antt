@@ -1,3 +1,4 @@
+-- The key of the place is let go, and its part with it.
 use Rattle.std.proofs.Common.{ap, ◌∙◌, set, None}
 use Rattle.client_retry.proofs.SlotLemmas.{take_seen, take_kept}
 use Rattle.client_retry.proofs.slots.Slots.take.Goals as goal
