@@ -1,3 +1,4 @@
+-- The place behind the number is the frame's, and its piece of the bytes is the frame's bytes.
 use Rattle.std.proofs.Common.{arith}
 use Rattle.link_sim.proofs.Frames.{found_expired, found_live}
 use Rattle.link_sim.proofs.Link.get.Goals as goal

@@ -1,3 +1,4 @@
+-- The bytes at the end are the new frame's, and those of the others stay.
 use Rattle.std.proofs.Common.{◌≡◌, true, not, ap, ◌∙◌, arith}
 use Rattle.std.specs.Result.{is_ok}
 use Rattle.link_sim.proofs.Frames.{sent_done}
