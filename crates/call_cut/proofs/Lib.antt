@@ -2,3 +2,4 @@ pub mod PieceLemmas
 pub mod Buffers
 pub mod Takings
 pub mod Endings
+pub mod Cuts

@@ -1,6 +1,7 @@
 //! Values from outside, and each call once.
 
-ghost use Rattle.std.specs.Prelude.{◌≡◌, length, IfOk, None};
+ghost use Rattle.std.specs.Prelude.{◌≡◌, [], ◌∷◌, length, IfOk, None};
+ghost use Rattle.cl_types.specs.declared.call.Call.TheVariants as call;
 ghost use Rattle.flat_model.specs.Faults.{first_fault};
 ghost use Rattle.flat_model.specs.Issue.{call_faults};
 
@@ -8,7 +9,7 @@ use crate::{Gather, part, parts};
 use cl_types::call::{Call, Perm};
 use cl_types::items::{Bytes, NoMemory};
 use cl_types::numbers::Addr;
-use cl_types::reply::{Answer, ReplyRef, Value};
+use cl_types::reply::{Answer, Refusal, ReplyRef, Value};
 use cl_types::request::RequestRef;
 use std::alloc::Global;
 use std::test::Fail;
@@ -53,6 +54,51 @@ fn a_write_is_cut_at_pages_and_every_1024_bytes(rt: HostRuntime) -> Result<(), F
     ];
     assert_eq!(rt; parts(&call), 6);
     assert_eq!(rt; first_parts(&call), want);
+    Ok(())
+}
+
+/// A Read of the last two bytes of a page and of the first two of the next, a part for each.
+fn read_over_the_end_of_a_page(alloc: Global) -> Result<Call, NoMemory>
+    ensures { IfOk result
+        (λ read. read ≡ call.Read (record { 0 = 8190 }) (0 ∷ 0 ∷ 0 ∷ 0 ∷ [])) }
+{
+    let mut buf = Bytes::create(alloc);
+    buf.append(&[0, 0, 0, 0])?;
+    Ok(Call::Read {
+        addr: Addr(0x1ffe),
+        buf,
+    })
+}
+
+/// The bytes in the buffer of a Read.
+fn bytes_read(call: &Call) -> &[u8] {
+    match call {
+        Call::Read { buf, .. } => buf.as_slice(),
+        _ => &[],
+    }
+}
+
+#[test]
+fn a_read_is_put_together_from_replies_in_any_order(rt: HostRuntime) -> Result<(), Fail> {
+    let mut call = read_over_the_end_of_a_page(rt.alloc())?;
+    let mut gather = Gather::create(2);
+    gather.take(&mut call, 1, &ReplyRef::Got(b"cd"));
+    gather.take(&mut call, 0, &ReplyRef::Got(b"ab"));
+    let done = Answer::Done(Value::Len(4));
+    assert_eq!(rt; gather.answer(&mut call), Some(done));
+    assert_eq!(rt; bytes_read(&call), b"abcd".as_slice());
+    Ok(())
+}
+
+#[test]
+fn a_refusal_leaves_zeros_in_the_buffer(rt: HostRuntime) -> Result<(), Fail> {
+    let mut call = read_over_the_end_of_a_page(rt.alloc())?;
+    let mut gather = Gather::create(2);
+    gather.take(&mut call, 0, &ReplyRef::Got(b"ab"));
+    gather.take(&mut call, 1, &ReplyRef::Refused(Refusal::NoMapping));
+    let refused = Answer::Refused(Refusal::NoMapping);
+    assert_eq!(rt; gather.answer(&mut call), Some(refused));
+    assert_eq!(rt; bytes_read(&call), [0, 0, 0, 0].as_slice());
     Ok(())
 }
 

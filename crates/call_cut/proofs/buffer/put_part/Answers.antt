@@ -1,3 +1,4 @@
+-- The offset of a piece is that of its bytes in the buffer.
 use Rattle.std.proofs.Common.{◌≡◌, Some, ap, sym, ◌∙◌, slice_get, length}
 use Rattle.cl_types.specs.Bytes.{with_bytes}
 use Rattle.cl_types.specs.declared.call.Call.TheVariants.{Read}

@@ -1,3 +1,4 @@
+-- The first part that is met is the least that was given up.
 use Rattle.call_cut.specs.Ends.{given_up_among}
 use Rattle.call_cut.proofs.Endings.{found_here}
 use Rattle.call_cut.proofs.gather.first_given_up.Goals as goal

@@ -1,3 +1,4 @@
+-- No part so far was given up.
 use Rattle.std.proofs.Common.{◌≡◌, drop}
 use Rattle.call_cut.specs.Ends.{given_up_among}
 use Rattle.call_cut.proofs.gather.first_given_up.Given as goal

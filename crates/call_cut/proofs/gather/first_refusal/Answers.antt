@@ -1,3 +1,4 @@
+-- The first refusal that is met is the least part's.
 use Rattle.call_cut.specs.Ends.{refusal_among}
 use Rattle.call_cut.proofs.Endings.{found_here}
 use Rattle.call_cut.proofs.gather.first_refusal.Goals as goal

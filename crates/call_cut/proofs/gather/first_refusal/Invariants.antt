@@ -1,3 +1,4 @@
+-- No outcome so far was a refusal.
 use Rattle.std.proofs.Common.{◌≡◌, drop}
 use Rattle.call_cut.specs.Ends.{refusal_among}
 use Rattle.call_cut.proofs.gather.first_refusal.Given as goal

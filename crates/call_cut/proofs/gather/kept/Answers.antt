@@ -1,3 +1,4 @@
+-- A reply has so few bytes that their number fits its type.
 use Rattle.std.proofs.Common.{subst, arith}
 use Rattle.cl_types.specs.Requests.{reply_of}
 use Rattle.call_cut.specs.Taking.{TakesFor}

@@ -1,3 +1,4 @@
+-- The pieces that are left begin at the offset.
 use Rattle.std.proofs.Common.{drop}
 use Rattle.flat_model.specs.Cut.{pieces}
 use Rattle.call_cut.proofs.PieceLemmas.{HasCome}

@@ -1,3 +1,4 @@
+-- Each turn counts one more piece, and there are few.
 use Rattle.std.proofs.Common.{arith}
 use Rattle.call_cut.proofs.PieceLemmas.{count_few, count_step}
 use Rattle.call_cut.proofs.pieces.piece_count.Goals as goal

@@ -1,3 +1,4 @@
+-- The pieces up to the offset are counted.
 use Rattle.std.proofs.Common.{◌-◌}
 use Rattle.call_cut.proofs.PieceLemmas.{Counts}
 use Rattle.call_cut.proofs.pieces.piece_count.Given as goal

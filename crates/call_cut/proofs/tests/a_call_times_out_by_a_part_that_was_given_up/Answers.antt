@@ -1,3 +1,4 @@
+-- The Alloc is a good call.
 use Rattle.std.proofs.Common.{refl}
 use Rattle.cl_types.specs.declared.call.Call.TheVariants.{Alloc}
 use Rattle.cl_types.specs.declared.call.Perm.{Perm}

@@ -1,3 +1,4 @@
+-- There are as many bytes as turns.
 use Rattle.std.proofs.Common.{◌≡◌, length}
 use Rattle.call_cut.proofs.tests.sized.Given as goal
 

@@ -1,3 +1,4 @@
+-- Some part waits, or one failed, or all are done.
 use Rattle.std.proofs.Common.{take}
 use Rattle.call_cut.proofs.Endings.{answer_waiting, answer_failed, answer_done}
 use Rattle.call_cut.proofs.gather.Gather.answer.Goals as goal

@@ -1,3 +1,4 @@
+-- As many outcomes as there are parts, and each of them waits.
 use Rattle.std.proofs.Common.{ap, length, subst, sym, ◌∙◌}
 use Rattle.std.proofs.lemmas.List.{take-replicate, length-replicate}
 use Rattle.call_cut.specs.declared.outcome.Outcome.{Outcome}

@@ -1,3 +1,4 @@
+-- The outcome of one part is put in, and the others stay.
 use Rattle.std.proofs.Common.{ap, subst, sym, ◌∙◌}
 use Rattle.call_cut.specs.declared.outcome.Outcome.TheVariants.{GivenUp}
 use Rattle.call_cut.specs.Came.{came}

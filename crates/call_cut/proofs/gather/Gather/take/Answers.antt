@@ -1,3 +1,4 @@
+-- The outcome and the bytes of one part are put in, and the others stay.
 use Rattle.std.proofs.Common.{arith, ap, length}
 use Rattle.std.proofs.lemmas.List.{length-take}
 use Rattle.call_cut.specs.declared.outcome.Outcome.{Outcome}
