@@ -4,7 +4,10 @@ use Rattle.std.specs.Prelude.{find, option_map, ◌&&◌, ◌==◌, leb, slice_g
 use Rattle.std.specs.List.{AllByRecursion as Each}
 use Rattle.std.proofs.lemmas.List.{drop-map}
 use Rattle.std.proofs.lemmas.List.Elements.{filter-append}
+use Rattle.cl_types.specs.Kinds.{kind_number}
+use Rattle.cl_types.specs.Parts.{same_part}
 use Rattle.cl_types.specs.Requests.{is_changing}
+use Rattle.cl_types.specs.Times.{is_live}
 use Rattle.cl_types.specs.declared.config.Config.{Config}
 use Rattle.cl_types.specs.declared.frame.Head.{Head}
 use Rattle.cl_types.specs.declared.reply.Reply.{Reply}
@@ -13,11 +16,11 @@ use Rattle.cl_types.specs.declared.request.Request.TheVariants.{Alloc}
 use Rattle.cl_types.specs.declared.line.Entry.{Entry}
 use Rattle.cl_types.specs.declared.schedule.Event.{Event}
 use Rattle.cl_types.specs.declared.schedule.Event.TheVariants as event
-use Rattle.flat_model.specs.Account.{Account, Frame, Carried, Load, Asks, Answers, Effect, joined_by, extended, now, is_before, frame_at, is_live, taken_in_order, items_of, if_taken_of, memory_at, recorded, with_entry, with_entries}
-use Rattle.flat_model.specs.Client.{Sending, flight_under, same_client, same_part}
+use Rattle.flat_model.specs.Account.{Account, Frame, Carried, Load, Asks, Answers, Effect, joined_by, extended, now, is_before, frame_at, taken_in_order, items_of, if_taken_of, memory_at, recorded, with_entry, with_entries}
+use Rattle.flat_model.specs.Client.{Sending, flight_under, same_client}
 use Rattle.flat_model.specs.Clients.{client_at, first_sent, request_of_part}
 use Rattle.flat_model.specs.Events.{record_of, entry_of, handled, item_handling, on_item, on_items, then_also, handed, if_live, on_frame, on_delivery, if_there, on_flight, on_next, effect, account, account_of_latest}
-use Rattle.flat_model.specs.Frames.{kind_of, kind_number}
+use Rattle.flat_model.specs.Frames.{kind_of}
 use Rattle.flat_model.specs.Handling.{Handling, Repeats, RefusesForNow, Executes, Looks, handling, item_outcome, latest, oldest_of}
 use Rattle.flat_model.specs.Nodes.{Record, name_of, same_name, record_named, handles, step_item, node_after, said_to}
 use Rattle.flat_model.specs.Properties.{is_delivery}
@@ -443,7 +446,7 @@ module _ (config : Config) (a : Account) (l : ℕ) (b : Base config a l) where
   delivery_left k = go (frame_at a k) refl where
     go : (o : Option Frame) → frame_at a k ≡ o → node_at config (joined_by a (on_frame (latest config.node.retry) config a l k o)) ≡ node_after_frame (now a l) o (node_at config a)
     go None is = refl
-    go (Some frame) is = live_left k frame is (is_live (now a l) frame)
+    go (Some frame) is = live_left k frame is (is_live (now a l) frame.moment)
 
   next_left : node_at config (joined_by a (on_next (latest config.node.retry) config a (on_delivery (latest config.node.retry) config a l))) ≡ node_after_frame (now a l) (frame_at a (taken_in_order a + 1)) (node_at config a)
   next_left = go (frame_at a (taken_in_order a + 1)) refl where

@@ -3,6 +3,8 @@ use Rattle.std.proofs.Common.{◌≡◌, ℕ, suc, ◌+◌, ◌<◌, ◌≤◌, 
 use Rattle.std.specs.Prelude.{count_by, filter_map, find, option_map, unwrap_or, ◌&&◌, ◌||◌, ◌==◌, slice_index}
 use Rattle.std.specs.List.{AllByRecursion as Each, cons_option}
 use Rattle.std.proofs.lemmas.Bool.Decides.{nat_tests}
+use Rattle.cl_types.specs.Kinds.{kind_number}
+use Rattle.cl_types.specs.Parts.{same_part}
 use Rattle.cl_types.specs.Requests.{is_changing}
 use Rattle.cl_types.specs.declared.config.Config.{Config}
 use Rattle.cl_types.specs.declared.frame.Head.{Head}
@@ -17,11 +19,11 @@ use Rattle.cl_types.specs.declared.schedule.Event.{Event}
 use Rattle.cl_types.specs.declared.schedule.Event.TheVariants as event
 use Rattle.flat_model.proofs.ReplyFrameLemmas.{replies_are_read_again}
 use Rattle.flat_model.specs.Account.{Account, Frame, Carried, Load, Asks, Answers, Effect, says, extended, now, items_of, memory_at, recorded, entries_before, is_before, nothing_yet, next_frame_number}
-use Rattle.flat_model.specs.Client.{ClientPart, Outgoing, Sending, GivesUp, EndsFence, Sends, again, anew, flight_under, flights, head_of, next_id, same_client, same_part}
+use Rattle.flat_model.specs.Client.{ClientPart, Outgoing, Sending, GivesUp, EndsFence, Sends, again, anew, flight_under, flights, head_of, next_id, same_client}
 use Rattle.flat_model.specs.Clients.{client_at, first_of, first_sending, first_sent, is_sending, pid_of, request_of_part, sendings}
 use Rattle.flat_model.specs.Events.{account, account_from, effect, entry_of, handled, item_handling, keep_all, next_account, on_flight, on_item, on_items, on_polled, reply_frame_of}
 use Rattle.flat_model.specs.FrameLaws.{ReadsAsReply}
-use Rattle.flat_model.specs.Frames.{IsHead, SpellsReply, SpellsRequest, head_in, kind_of, kind_number, reply_in}
+use Rattle.flat_model.specs.Frames.{IsHead, SpellsReply, SpellsRequest, head_in, kind_of, reply_in}
 use Rattle.flat_model.specs.Handling.{Handling, Repeats, RefusesForNow, Executes, Looks, item_outcome}
 use Rattle.flat_model.specs.Hearing.{HearsLate, HearsReply, HearsUnfit, HearsOther, hearing, heard_judged, heard_in_flight, is_as_long, is_fit}
 use Rattle.flat_model.specs.Run.{after}

@@ -7,7 +7,8 @@ use Rattle.cl_types.specs.declared.line.Did.TheVariants as did
 use Rattle.cl_types.specs.declared.line.Entry.{Entry}
 use Rattle.cl_types.specs.declared.schedule.Event.{Event}
 use Rattle.cl_types.specs.declared.schedule.Event.TheVariants as event
-use Rattle.flat_model.specs.Account.{Account, Carried, Effect, Frame, Load, Asks, Answers, frame_at, is_live, joined_by, now, says, taken_in_order}
+use Rattle.cl_types.specs.Times.{is_live}
+use Rattle.flat_model.specs.Account.{Account, Carried, Effect, Frame, Load, Asks, Answers, frame_at, joined_by, now, says, taken_in_order}
 use Rattle.flat_model.specs.Clients.{first_sent}
 use Rattle.flat_model.specs.Events.{account_of_latest, entry_of, handed, next_account, nothing_happens, replies, then_also}
 use Rattle.flat_model.specs.Frames.{Item, kind_of}
@@ -80,7 +81,7 @@ node_after_delivered t false frame n = n
 -- the frame of a delivery, where there is one
 abbrev pub node_after_frame : ℕ → Option Frame → Node → Node
 node_after_frame t None n = n
-node_after_frame t (Some frame) n = node_after_delivered t (is_live t frame) frame n
+node_after_frame t (Some frame) n = node_after_delivered t (is_live t frame.moment) frame n
 
 -- the node after an event: a live request frame is a step of its machine, and all else leaves it
 abbrev pub node_after_event : Account → ℕ → Event → Node → Node
