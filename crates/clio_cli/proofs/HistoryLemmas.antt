@@ -7,8 +7,9 @@ use Rattle.cl_types.specs.Requests.{is_changing}
 use Rattle.cl_types.specs.declared.line.Entry.{Entry}
 use Rattle.cl_types.specs.declared.numbers.ClientNo.{ClientNo}
 use Rattle.cl_types.specs.declared.reply.Part.{Part}
+use Rattle.cl_types.specs.Parts.{same_part}
 use Rattle.flat_model.specs.Account.{is_before, with_entry}
-use Rattle.flat_model.specs.Client.{same_client, same_part}
+use Rattle.flat_model.specs.Client.{same_client}
 use Rattle.flat_model.specs.Events.{record_of}
 use Rattle.flat_model.specs.Handling.{oldest_of}
 use Rattle.flat_model.specs.Run.{changing_of}

@@ -23,11 +23,12 @@ use Rattle.cl_types.specs.declared.request.Request.TheVariants as request
 use Rattle.cl_types.specs.declared.schedule.CallText.{CallText}
 use Rattle.cl_types.specs.declared.schedule.Event.{Event}
 use Rattle.cl_types.specs.declared.schedule.Event.TheVariants as event
-use Rattle.flat_model.specs.Account.{Account, Carried, Effect, Frame, Line, Load, Asks, Answers, asks_next, found_none, frame_at, is_before, is_live, memory_at, now, nothing_yet, recorded, says, taken_in_order, ticks_of, with_entry, with_entries}
+use Rattle.cl_types.specs.Times.{is_live, is_young}
+use Rattle.flat_model.specs.Account.{Account, Carried, Effect, Frame, Line, Load, Asks, Answers, asks_next, found_none, frame_at, is_before, memory_at, now, nothing_yet, recorded, says, taken_in_order, ticks_of, with_entry, with_entries}
 use Rattle.flat_model.specs.Client.{ClientState, GivesUp, EndsFence, Sends, Idles, Polled, Outgoing, Sending, after_poll, flight_under, handed_out, poll, same_client}
 use Rattle.flat_model.specs.Clients.{call_of, client_at}
 use Rattle.flat_model.specs.Events.{account_from, carried, effect, entry_of, handed, handled, if_live, if_there, item_handling, keep_all, next_account, nothing_happens, on_delivery, on_flight, on_found_page, on_frame, on_judged, on_polled, on_reply, record_of, request_frame_of, then_also}
-use Rattle.flat_model.specs.Handling.{Handling, Repeats, RefusesForNow, Executes, Looks, handling, if_young, is_young, oldest_of}
+use Rattle.flat_model.specs.Handling.{Handling, Repeats, RefusesForNow, Executes, Looks, handling, if_young, oldest_of}
 use Rattle.flat_model.specs.Issue.{issue_fault}
 use Rattle.flat_model.specs.Pages.{page_of}
 use Rattle.flat_model.specs.Run.{after, changing_of}
@@ -73,7 +74,7 @@ still_sum test (line ∷ lines) each = step (test line) (still_sum test lines ea
 now_zero : (a : Account) (l : ℕ) → Each (λ (line : Line). ticks_of line.event ≡ 0) a.lines → now a l ≡ 0
 now_zero a l each = still_sum (λ line. nat_lt line.number l) a.lines each
 
-live_now : (frame : Frame) → is_live 0 frame ≡ true
+live_now : (frame : Frame) → is_live 0 frame.moment ≡ true
 live_now frame = grind (arith, nat_tests)
 
 -- ---- memory
@@ -343,12 +344,12 @@ module _ (config : Config) (c : ClientNo) (events : List (ℕ × Event)) where
     opened : effect keep_all config a l event.DeliverNext ≡ handed keep_all config a l k load
     opened =
         ap (λ o. if_there keep_all config (on_delivery keep_all config a l) k o) there ∙ ap (λ o. on_frame keep_all config a l k o) there
-        ∙ ap (λ t. if_live keep_all config a l k found.0 (is_live t found.0)) zero_now ∙ ap (if_live keep_all config a l k found.0) (live_now found.0)
+        ∙ ap (λ t. if_live keep_all config a l k found.0 (is_live t found.0.moment)) zero_now ∙ ap (if_live keep_all config a l k found.0) (live_now found.0)
         ∙ ap (handed keep_all config a l k) found.2
 
     heard : after_event a l event.DeliverNext s ≡ after_load load s
     heard =
-        ap (λ o. after_frame (now a l) o s) there ∙ ap (λ t. after_delivered (is_live t found.0) found.0 s) zero_now
+        ap (λ o. after_frame (now a l) o s) there ∙ ap (λ t. after_delivered (is_live t found.0.moment) found.0 s) zero_now
         ∙ ap (λ live. after_delivered live found.0 s) (live_now found.0) ∙ ap (λ x. after_load x s) found.2
 
     length_gone : length outcome_frames ≡ taken_in_order a + 1

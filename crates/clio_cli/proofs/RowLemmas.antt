@@ -15,9 +15,10 @@ use Rattle.cl_types.specs.declared.reply.Reply.TheVariants as reply
 use Rattle.cl_types.specs.declared.reply.Value.TheVariants as value
 use Rattle.account_laws.specs.Following.{after_heard}
 use Rattle.flat_model.specs.Cut.{Replied}
-use Rattle.flat_model.specs.Client.{Finished, answered, after_poll, after_reply, call_changed, end_told, finished, finished_with, flight_under, gone_out, handed_out, told, ClientCall, ClientPart, Sending, GivesUp, Sends, Idles, Standing, again, first_some, flight, flights, is_unsent, parts_of, prints, is_old, is_due, poll, fence_first, to_give_up, to_send_again, to_send, anew}
+use Rattle.flat_model.specs.Client.{Finished, answered, after_poll, after_reply, call_changed, end_told, finished, finished_with, flight_under, gone_out, handed_out, told, ClientCall, ClientPart, Sending, GivesUp, Sends, Idles, Standing, again, first_some, flight, flights, is_unsent, parts_of, prints, poll, fence_first, to_give_up, to_send_again, to_send, anew}
 use Rattle.cl_types.specs.declared.limits.TheConstants.{PARTS_IN_FLIGHT, TIMEOUT}
 use Rattle.cl_types.specs.declared.numbers.ClientNo.{ClientNo}
+use Rattle.cl_types.specs.Times.{is_old, is_due}
 use Rattle.clio_cli.specs.Asks.{call_for, request_of}
 use Rattle.clio_cli.specs.Rows.{after_sent, call_of_row, can_be_sent, ended_by, holds_back, is_numbered, is_under, may_go_among, next_row, only_part, outgoing_of, polled_of, sent_as, sent_row, standing_of, state_of, state_with, was_sent, without}
 use Rattle.clio_cli.specs.declared.ask.Ask.{Ask}
@@ -60,10 +61,10 @@ find_nowhere : {X : Type 0} (test : X → Bool) (xs : List X) → ((x : X) → t
 find_nowhere test [] fails = refl
 find_nowhere test (x ∷ xs) fails = rw (fails x) (find_nowhere test xs fails)
 
-not_old : (f : Sending) → is_old 0 f ≡ false
+not_old : (f : Sending) → is_old 0 f.first ≡ false
 not_old f = grind (arith, nat_tests)
 
-not_due : (f : Sending) → is_due 0 f ≡ false
+not_due : (f : Sending) → is_due 0 f.first f.last ≡ false
 not_due f = let early : leb TIMEOUT (0 - f.last) ≡ false = grind (arith, nat_tests) in rw early refl
 
 not_fence : (a : Ask) → is_fence (call_for a) ≡ false
@@ -237,8 +238,8 @@ module _ (c : Client) where
   -- a poll sends the next row
   pub poll_rows : poll (state_of c) 0 ≡ polled_of (option_map (outgoing_of (c.sendings + 1)) (next_row rows))
   poll_rows =
-      let young : to_give_up (state_of c) 0 ≡ None = ap (option_map GivesUp) (find_nowhere (is_old 0) (flights (state_of c)) not_old) in
-      let early : to_send_again (state_of c) 0 ≡ None = ap (option_map (λ f. Sends (again (c.sendings + 1) f ∷ []))) (find_nowhere (is_due 0) (flights (state_of c)) not_due) in
+      let young : to_give_up (state_of c) 0 ≡ None = ap (option_map GivesUp) (find_nowhere (λ f. is_old 0 f.first) (flights (state_of c)) not_old) in
+      let early : to_send_again (state_of c) 0 ≡ None = ap (option_map (λ f. Sends (again (c.sendings + 1) f ∷ []))) (find_nowhere (λ f. is_due 0 f.first f.last) (flights (state_of c)) not_due) in
       rw (young, no_fence rows, early, sent_next) (told (next_row rows)) where
         told : (o : Option Row)
             → unwrap_or (first_some (option_map (λ r. Sends (anew (c.sendings + 1) (part_of_row r) ∷ [])) o ∷ [])) Idles ≡ polled_of (option_map (outgoing_of (c.sendings + 1)) o)

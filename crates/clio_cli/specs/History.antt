@@ -4,7 +4,8 @@ use Rattle.cl_types.specs.Requests.{is_changing}
 use Rattle.cl_types.specs.declared.line.Entry.{Entry}
 use Rattle.cl_types.specs.declared.numbers.ClientNo.{ClientNo}
 use Rattle.cl_types.specs.declared.reply.Part.{Part}
-use Rattle.flat_model.specs.Client.{same_client, same_part}
+use Rattle.cl_types.specs.Parts.{same_part}
+use Rattle.flat_model.specs.Client.{same_client}
 
 -- the entry records a changing part of this name
 abbrev pub is_record_of : ClientNo → Part → Entry → Bool
