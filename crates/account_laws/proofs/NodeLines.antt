@@ -66,18 +66,18 @@ find-map {X} {Y} test f own (x ∷ xs) h = ap (λ b. cond b (Some (f x)) (find t
   go true rec = refl
   go false rec = rec
 
-map-length : {X Y : Type 0} (f : X → Y) (xs : List X) → length (map f xs) ≡ length xs
+pub map-length : {X Y : Type 0} (f : X → Y) (xs : List X) → length (map f xs) ≡ length xs
 map-length f [] = refl
 map-length f (x ∷ xs) = ap suc (map-length f xs)
 
-map-append : {X Y : Type 0} (f : X → Y) (xs ys : List X) → map f (xs ++ ys) ≡ map f xs ++ map f ys
+pub map-append : {X Y : Type 0} (f : X → Y) (xs ys : List X) → map f (xs ++ ys) ≡ map f xs ++ map f ys
 map-append f [] ys = refl
 map-append f (x ∷ xs) ys = ap (λ zs. f x ∷ zs) (map-append f xs ys)
 
 latest-map : {X Y : Type 0} (f : X → Y) (n : ℕ) (xs : List X) → latest n (map f xs) ≡ map f (latest n xs)
 latest-map f n xs = ap (λ k. drop (k - n) (map f xs)) (map-length f xs) ∙ drop-map f (length xs - n) xs
 
-slice_get-map : {X Y : Type 0} (f : X → Y) (xs : List X) (i : ℕ) → slice_get (map f xs) i ≡ option_map f (slice_get xs i)
+pub slice_get-map : {X Y : Type 0} (f : X → Y) (xs : List X) (i : ℕ) → slice_get (map f xs) i ≡ option_map f (slice_get xs i)
 slice_get-map f [] i = refl
 slice_get-map f (x ∷ xs) zero = refl
 slice_get-map f (x ∷ xs) (suc i) = slice_get-map f xs i
@@ -92,7 +92,7 @@ oldest_of-map {X} {Y} f (suc n) xs =
     go true = slice_get-map f xs (length xs - suc n)
     go false = refl
 
-option_map-map : {X Y Z : Type 0} (g : Y → Z) (f : X → Y) (o : Option X) → option_map g (option_map f o) ≡ option_map (λ x. g (f x)) o
+pub option_map-map : {X Y Z : Type 0} (g : Y → Z) (f : X → Y) (o : Option X) → option_map g (option_map f o) ≡ option_map (λ x. g (f x)) o
 option_map-map g f None = refl
 option_map-map g f (Some x) = refl
 
@@ -503,7 +503,7 @@ module _ (config : Config) (a : Account) (l : ℕ) (b : Base config a l) where
       each_both (e ∷ h) o k = (record { owned = o.0; line = let low : e.line < l = line_of_before l e k.0 in omega arith }, each_both h o.1 k.1)
 
 -- ---- every schedule
-rising_front : (events : List (ℕ × Event)) (m l : ℕ) (event : Event) → IsRisingFrom m (events ++ (l, event) ∷ []) → IsRisingFrom m events × (past m events ≤ l)
+pub rising_front : (events : List (ℕ × Event)) (m l : ℕ) (event : Event) → IsRisingFrom m (events ++ (l, event) ∷ []) → IsRisingFrom m events × (past m events ≤ l)
 rising_front [] m l event r = (tt, r.0)
 rising_front (e ∷ es) m l event r = let rest = rising_front es (e.0 + 1) l event r.1 in ((r.0, rest.0), rest.1)
 

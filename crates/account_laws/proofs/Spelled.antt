@@ -33,7 +33,7 @@ use Rattle.account_laws.specs.Flights.{FlightOf}
 use Rattle.account_laws.specs.ReadSchedules.{AreOfClients, IsClient, IsGood, has_client, is_of_clients}
 use Rattle.account_laws.specs.RepliesFit.{IsReplyTo}
 use Rattle.account_laws.specs.Schedules.{IsRisingFrom, AreTyped}
-use Rattle.account_laws.specs.Spelled.{SpellsLoad, FramesAreSpelled, heard_as, RepliesAreHeard}
+use Rattle.account_laws.specs.Spelled.{IsLookOf, SpellsLoad, FramesAreSpelled, heard_as, RepliesAreHeard}
 use Rattle.account_laws.proofs.Cases.{Cases, IsQuiet, effect_by, peek_is_quiet}
 use Rattle.account_laws.proofs.ClientLines.{sendings_extended}
 use Rattle.account_laws.proofs.Following.{none_count, quiet_unsaid}
@@ -53,13 +53,13 @@ use Rattle.account_laws.proofs.TimesKept.{frame_at_each}
 
 -- ---- what is kept
 -- the bytes spell what the frame carries, and a reply is one to its part's request
-abbrev LoadSpells : Config → Account → List ℕ → Load → Type 0
-LoadSpells config a bytes (Asks items) = (i : Carried) × (items ≡ i ∷ []) × SpellsRequest bytes i.item.head i.item.request
-LoadSpells config a bytes (Answers head reply if_taken) =
-    (p : Part) × (r : Request) × Owned config a head.client head.pid p r head.orig × SpellsReply bytes head (kind_of r) reply × IsReplyTo r reply
+abbrev LoadSpells : Config → Account → List ℕ → ℕ → Load → Type 0
+LoadSpells config a bytes line (Asks items) = (i : Carried) × (items ≡ i ∷ []) × SpellsRequest bytes i.item.head i.item.request
+LoadSpells config a bytes line (Answers head reply if_taken) =
+    (p : Part) × (r : Request) × Owned config a head.client head.pid p r head.orig × SpellsReply bytes head (kind_of r) reply × IsReplyTo r reply × Each (IsLookOf line head) if_taken
 
 abbrev FrameSpells : Config → Account → Frame → Type 0
-FrameSpells config a f = LoadSpells config a f.bytes f.load
+FrameSpells config a f = LoadSpells config a f.bytes f.line f.load
 
 -- ids are counted from 1, at most one a line
 record Spelling (config : Config) (a : Account) : Type 0 where
@@ -76,9 +76,9 @@ record SpellFits (config : Config) (a new : Account) (t : ℕ) (e : Effect) : Ty
 abbrev SpellFit : Config → Account → ℕ → Event → Effect → Type 0
 SpellFit config a l event e = is_of_clients config.clients event ≡ true → SpellFits config a (extended a l event e) (now a l) e
 
-load_kept : (config : Config) (a : Account) (l : ℕ) (event : Event) (e : Effect) (bytes : List ℕ) (load : Load) → LoadSpells config a bytes load → LoadSpells config (extended a l event e) bytes load
-load_kept config a l event e bytes (Asks items) k = k
-load_kept config a l event e bytes (Answers head reply if_taken) k = (k.0, k.1, owned_kept config a l event e head.client head.pid k.0 k.1 head.orig k.2, k.3, k.4)
+load_kept : (config : Config) (a : Account) (l : ℕ) (event : Event) (e : Effect) (bytes : List ℕ) (line : ℕ) (load : Load) → LoadSpells config a bytes line load → LoadSpells config (extended a l event e) bytes line load
+load_kept config a l event e bytes line (Asks items) k = k
+load_kept config a l event e bytes line (Answers head reply if_taken) k = (k.0, k.1, owned_kept config a l event e head.client head.pid k.0 k.1 head.orig k.2, k.3, k.4, k.5)
 
 spelling_kept : (config : Config) (a : Account) (l : ℕ) (event : Event) (e : Effect) → Spelling config a → SpellFits config a (extended a l event e) (now a l) e → Spelling config (extended a l event e)
 spelling_kept config a l event e s f = record {
@@ -86,7 +86,7 @@ spelling_kept config a l event e s f = record {
       omega (arith, sendings_extended a l event e c, length-append a.lines (record { number = l; moment = now a l; event = event; texts = e.texts; ended = e.ended } ∷ []));
   some = λ c p o m h. ⊎_elim (λ (x : first_sent a c p ≡ Some (o, m)). s.some c p o m x)
       (λ (x : (first_sent a c p ≡ None) × (first_of (filter_map (first_sending c p (now a l)) e.texts) ≡ Some (o, m))). f.some c p o m x.1) (sent_cases a l event e c p (o, m) h);
-  frames = each_append (FrameSpells config (extended a l event e)) a.frames e.frames (each_weaker (FrameSpells config a) (FrameSpells config (extended a l event e)) (λ x. load_kept config a l event e x.bytes x.load) a.frames s.frames) f.frames;
+  frames = each_append (FrameSpells config (extended a l event e)) a.frames e.frames (each_weaker (FrameSpells config a) (FrameSpells config (extended a l event e)) (λ x. load_kept config a l event e x.bytes x.line x.load) a.frames s.frames) f.frames;
 }
 
 -- ---- texts that tell no sending
@@ -195,13 +195,14 @@ module _ (config : Config) (a : Account) (l : ℕ) (b : Base config a l) (s : Sp
     abbrev new : Account
     new = extended a l event x
 
-    answer : (reply : Reply) → IsReplyTo i.item.request reply → (if_taken : List Entry) → FrameSpells config new (reply_frame_of (now a l) l i reply if_taken)
-    answer reply fits if_taken = (
+    answer : (reply : Reply) → IsReplyTo i.item.request reply → (if_taken : List Entry) → Each (IsLookOf l i.item.head) if_taken → FrameSpells config new (reply_frame_of (now a l) l i reply if_taken)
+    answer reply fits if_taken looks = (
       i.part,
       i.item.request,
       owned_kept config a l event x i.item.head.client i.item.head.pid i.part i.item.request i.item.head.orig own,
       record { good_head = head; good_body = fits.carried; spelling = refl },
       fits,
+      looks,
     )
 
     -- the machine's reply
@@ -225,10 +226,10 @@ module _ (config : Config) (a : Account) (l : ℕ) (b : Base config a l) (s : Sp
         subst (λ r. IsReplyTo r reply) request (subst (IsReplyTo tells.1.request) tells.3 found.0.fits)
 
     handled_spells : (h : Handling) → Tells (recorded a.history l 0) config.node.retry a l i h → Each (FrameSpells config new) (handled (memory_at config a.history l 0) a l k 0 i h).frames
-    handled_spells (Repeats reply) tells = (answer reply (repeated reply tells) [], tt)
+    handled_spells (Repeats reply) tells = (answer reply (repeated reply tells) [] tt, tt)
     handled_spells (RefusesForNow oldest) tells = tt
-    handled_spells Executes tells = (answer (item_outcome (memory_at config a.history l 0) i.item).reply made [], tt)
-    handled_spells Looks tells = (answer (item_outcome (memory_at config a.history l 0) i.item).reply made (entry_of l 0 i (item_outcome (memory_at config a.history l 0) i.item).reply ∷ []), tt)
+    handled_spells Executes tells = (answer (item_outcome (memory_at config a.history l 0) i.item).reply made [] tt, tt)
+    handled_spells Looks tells = (answer (item_outcome (memory_at config a.history l 0) i.item).reply made (entry_of l 0 i (item_outcome (memory_at config a.history l 0) i.item).reply ∷ []) (record { on_line = refl; first = refl; process = refl }, tt), tt)
 
   items_fit : (event : Event) (k : ℕ) (items : List Carried) (i : Carried) → items ≡ i ∷ [] → Each (ItemOwned config a) items → Each (λ (i : Carried). InRange i.item.request) items → IsHead i.item.head
       → SpellFit config a l event (on_items keep_all config a l k 0 items)
@@ -251,7 +252,7 @@ module _ (config : Config) (a : Account) (l : ℕ) (b : Base config a l) (s : Sp
     sends_again = λ c f of due. again_fits c f of;
     sends = λ c p of. sends_fits c p of;
     items = λ event k frame items delivers given.
-        let spelled : LoadSpells config a frame.bytes (Asks items) = subst (LoadSpells config a frame.bytes) given.carries (frame_at_each (FrameSpells config a) a k frame s.frames given.is_frame) in
+        let spelled : LoadSpells config a frame.bytes frame.line (Asks items) = subst (LoadSpells config a frame.bytes frame.line) given.carries (frame_at_each (FrameSpells config a) a k frame s.frames given.is_frame) in
         items_fit event k items spelled.0 spelled.1
         (subst (λ (x : Load). Each (ItemOwned config a) (items_of x)) given.carries (frame_at_each (λ (f : Frame). Each (ItemOwned config a) (items_of f.load)) a k frame b.once.items given.is_frame))
         (subst (λ (x : Load). Each (λ (i : Carried). InRange i.item.request) (items_of x)) given.carries (frame_at_each (λ (f : Frame). Each (λ (i : Carried). InRange i.item.request) (items_of f.load)) a k frame b.ran.items given.is_frame))
@@ -281,7 +282,7 @@ spelled_from config clients (e ∷ es) a l rising typed known room b s =
     spelled_from config clients es (next_account keep_all config a e) (e.0 + 1) rising.1 typed.1 known.1 (omega (arith, longer))
     (base_later config (next_account keep_all config a e) (suc e.0) (e.0 + 1) (omega arith) next) (spelling_next config a e.0 here s clients (omega arith) e.1 known.0)
 
-rises_from_zero : (events : List (ℕ × Event)) → IsRisingFrom 1 events → IsRisingFrom 0 events
+pub rises_from_zero : (events : List (ℕ × Event)) → IsRisingFrom 1 events → IsRisingFrom 0 events
 rises_from_zero [] r = tt
 rises_from_zero (e ∷ es) r = (omega arith, r.1)
 
@@ -291,17 +292,17 @@ spelled config events good room =
     (record { few = λ c. omega arith; some = λ c p o m h. absurd (none_some (o, m) h); frames = tt })
 
 -- what the law says of a frame
-load_says : (config : Config) (a : Account) (bytes : List ℕ) (load : Load) → LoadSpells config a bytes load → SpellsLoad bytes load
-load_says config a bytes (Asks items) k = k
-load_says config a bytes (Answers head reply if_taken) k = (k.1, k.3, k.4)
+load_says : (config : Config) (a : Account) (bytes : List ℕ) (line : ℕ) (load : Load) → LoadSpells config a bytes line load → SpellsLoad bytes line load
+load_says config a bytes line (Asks items) k = k
+load_says config a bytes line (Answers head reply if_taken) k = (k.1, k.3, k.4, k.5)
 
 pub frames_are_spelled : FramesAreSpelled
 frames_are_spelled config events good room =
-    each_weaker (FrameSpells config (account config events)) (λ (f : Frame). SpellsLoad f.bytes f.load) (λ f. load_says config (account config events) f.bytes f.load) (account config events).frames
+    each_weaker (FrameSpells config (account config events)) (λ (f : Frame). SpellsLoad f.bytes f.line f.load) (λ f. load_says config (account config events) f.bytes f.line f.load) (account config events).frames
     (spelled config events good room).spelling.frames
 
 -- ---- a reply is heard
-module _ (config : Config) (a : Account) (w : Spelled config a) (bytes : List ℕ) (head : Head) (reply : Reply) (if_taken : List Entry) (k : LoadSpells config a bytes (Answers head reply if_taken)) where
+module _ (config : Config) (a : Account) (w : Spelled config a) (bytes : List ℕ) (line : ℕ) (head : Head) (reply : Reply) (if_taken : List Entry) (k : LoadSpells config a bytes line (Answers head reply if_taken)) where
   reads : ReadsAsReply bytes head (kind_of k.1) reply
   reads = replies_are_read_again bytes head (kind_of k.1) reply k.3
 
@@ -342,5 +343,5 @@ module _ (config : Config) (a : Account) (w : Spelled config a) (bytes : List �
 pub replies_are_heard : RepliesAreHeard
 replies_are_heard config events good room k f head reply if_taken is carries =
     let w : Spelled config (account config events) = spelled config events good room in
-    heard config (account config events) w f.bytes head reply if_taken
-    (subst (LoadSpells config (account config events) f.bytes) carries (frame_at_each (FrameSpells config (account config events)) (account config events) k f w.spelling.frames is))
+    heard config (account config events) w f.bytes f.line head reply if_taken
+    (subst (LoadSpells config (account config events) f.bytes f.line) carries (frame_at_each (FrameSpells config (account config events)) (account config events) k f w.spelling.frames is))

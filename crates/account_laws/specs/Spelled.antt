@@ -16,16 +16,24 @@ use Rattle.flat_model.specs.Hearing.{Hearing, HearsLate, HearsReply, hearing}
 use Rattle.account_laws.specs.ReadSchedules.{IsGood}
 use Rattle.account_laws.specs.RepliesFit.{IsReplyTo}
 
--- the bytes spell the one item that a frame asks, or the reply that it carries, which is one to some request
-abbrev pub SpellsLoad : List ℕ → Load → Type 0
-SpellsLoad bytes (Asks items) = (i : Carried) × (items ≡ i ∷ []) × SpellsRequest bytes i.item.head i.item.request
-SpellsLoad bytes (Answers head reply if_taken) = (r : Request) × SpellsReply bytes head (kind_of r) reply × IsReplyTo r reply
+-- an entry that waits for the reply of a frame stands on the frame's line, and is of the process in its head
+pub record IsLookOf (line : ℕ) (head : Head) (e : Entry) : Type 0 where
+  pub on_line : e.line ≡ line
+  pub first : e.position ≡ 0
+  pub process : e.pid ≡ head.pid
+
+-- The bytes of a frame of this line spell the one item that it asks, or the reply that it carries, which is one to some
+-- request.
+abbrev pub SpellsLoad : List ℕ → ℕ → Load → Type 0
+SpellsLoad bytes line (Asks items) = (i : Carried) × (items ≡ i ∷ []) × SpellsRequest bytes i.item.head i.item.request
+SpellsLoad bytes line (Answers head reply if_taken) =
+    (r : Request) × SpellsReply bytes head (kind_of r) reply × IsReplyTo r reply × Each (IsLookOf line head) if_taken
 
 -- In the account of every good schedule, of fewer events than an id counts, each frame spells what it carries.
 abbrev pub FramesAreSpelled : Type 0
 FramesAreSpelled =
     (config : Config) (events : List (ℕ × Event)) → IsGood config events → length events < 2 ^ 64
-    → Each (λ (f : Frame). SpellsLoad f.bytes f.load) (account config events).frames
+    → Each (λ (f : Frame). SpellsLoad f.bytes f.line f.load) (account config events).frames
 
 -- a good reply is late where no part in flight has its orig, and else is taken for that part
 abbrev pub heard_as : Head → Reply → Option Sending → Hearing
