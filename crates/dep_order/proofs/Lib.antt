@@ -1,2 +1,11 @@
 pub mod Overlaps
-pub mod RowLemmas
+pub mod Fits
+pub mod Listed
+pub mod Joining
+pub mod Walks
+pub mod Rows
+pub mod Mapped
+pub mod Rising
+pub mod Going
+pub mod Made
+pub mod Sound

@@ -1,7 +1,7 @@
 -- What the rows of an order stand for. No public clause cites this module.
-use Rattle.std.specs.Prelude.{ℕ, ◌-◌, Bool, ◌&&◌, not, nat_lt, List}
-use Rattle.std.specs.List.{range_with_len, list_all}
-use Rattle.flat_model.specs.Order.{Footprint, waits_for}
+use Rattle.std.specs.Prelude.{ℕ, ◌-◌, List}
+use Rattle.std.specs.List.{range_with_len}
+use Rattle.flat_model.specs.Order.{Footprint}
 use Rattle.dep_order.specs.declared.row.Pages.{Pages}
 use Rattle.dep_order.specs.declared.row.Row.{Row}
 
@@ -12,7 +12,3 @@ pages_of pages = range_with_len pages.from (pages.end - pages.from)
 -- the call's number, and what its order rests on
 abbrev pub print_of : Row → ℕ × Footprint
 print_of row = (row.no.0, record { pages = pages_of row.pages; reads = row.reads; fence = row.fence; offload = row.offload })
-
--- the row's call waits for none of these
-abbrev pub row_goes : List Row → Row → Bool
-row_goes rows row = list_all (λ other. not (nat_lt other.no.0 row.no.0 && waits_for (print_of other).1 (print_of row).1)) rows

@@ -5,9 +5,10 @@ ghost use Rattle.flat_model.specs.Faults.{first_fault};
 ghost use Rattle.flat_model.specs.Issue.{call_faults};
 ghost use Rattle.flat_model.specs.Order.{footprint, share_page, offloads_conflict, waits_for, collide as collide_of, pages_over as pages_over_of};
 ghost use Rattle.dep_order.specs.Rows.{pages_of, print_of};
+ghost use Rattle.dep_order.specs.WaitLists.{AreFit};
 
 use cl_types::call::Call;
-use cl_types::limits::PAGE_BYTES;
+use cl_types::limits::{ADDRESS_END, CALL_BYTES, PAGE_BYTES};
 use cl_types::numbers::{Addr, CallNo};
 
 /// What the order of a call rests on.
@@ -32,10 +33,20 @@ pub struct Pages {
 
 const NO_PAGES: Pages = Pages { from: 0, end: 0 };
 
+/// A row with no pages, no offload and no Fence.
+pub const NO_ROW: Row = Row {
+    no: CallNo(0),
+    pages: NO_PAGES,
+    reads: false,
+    fence: false,
+    offload: None,
+};
+
 /// What the order of a good call rests on.
 pub fn row_of(no: CallNo, call: &Call) -> Row
     requires { first_fault (call_faults call.now) ≡ None }
-    ensures { print_of result ≡ (no.0, footprint call.now) }
+    ensures print { print_of result ≡ (no.0, footprint call.now) }
+    ensures fit { AreFit result.pages }
 {
     match call {
         Call::Free { addr, pages } => {
@@ -68,8 +79,10 @@ pub fn row_of(no: CallNo, call: &Call) -> Row
 
 /// A call that uses these pages, and no offload.
 fn touching(no: CallNo, pages: Pages, reads: bool) -> Row
-    ensures { print_of result
+    requires { AreFit pages }
+    ensures print { print_of result
         ≡ (no.0, record { pages = pages_of pages; reads = reads; fence = false; offload = None }) }
+    ensures fit { AreFit result.pages }
 {
     Row {
         no,
@@ -82,8 +95,10 @@ fn touching(no: CallNo, pages: Pages, reads: bool) -> Row
 
 /// The pages of `bytes` bytes at an address.
 fn pages_over(addr: Addr, bytes: u32) -> Pages
-    requires { addr.0 + bytes ≤ 268435456 }
-    ensures { pages_of result ≡ pages_over_of addr.0 bytes }
+    requires within { addr.0 + bytes ≤ ADDRESS_END }
+    requires few { bytes ≤ CALL_BYTES }
+    ensures pages { pages_of result ≡ pages_over_of addr.0 bytes }
+    ensures fit { AreFit result }
 {
     Pages {
         from: addr.0 / PAGE_BYTES,

@@ -1,6 +1,6 @@
-use Rattle.std.proofs.Common.{option_map, ap, ◌∙◌}
+use Rattle.std.proofs.Common.{ap, ◌∙◌, option_map}
 use Rattle.dep_order.specs.Calls.{number_of}
-use Rattle.dep_order.proofs.RowLemmas.{first_of_all}
+use Rattle.dep_order.proofs.Going.{first_of_all}
 use Rattle.dep_order.proofs.order.Order.first_ready.Goals as goal
 
 pub returns : goal.returns

@@ -1,0 +1,68 @@
+-- In which lists a call stands, and which call a walk along one looks for. No public clause cites this module.
+use Rattle.std.specs.Prelude.{◌≡◌, ℕ, ◌+◌, ◌/◌, ◌%◌, ◌<◌, ◌≤◌, ◌==◌, Bool, true, false, ◌&&◌, nat_lt, List, Some, None, slice_index_or}
+use Rattle.cl_types.specs.declared.limits.TheConstants.{HELD_CALLS, RANGE_PAGES, SPACE_PAGES}
+use Rattle.flat_model.specs.Order.{waits_for}
+use Rattle.index_lists.specs.NodeLists.{NodeLists, IsIn}
+use Rattle.dep_order.specs.declared.row.Pages.{Pages}
+use Rattle.dep_order.specs.declared.row.Row.{Row}
+use Rattle.dep_order.specs.declared.wait_lists.TheConstants.{GROUP_PAGES, OFFLOADS, FENCES, NUMBERS, NODES}
+use Rattle.dep_order.specs.declared.walk.Wanted.{Wanted}
+use Rattle.dep_order.specs.declared.walk.Wanted.TheVariants.{Number, AwaitedBy}
+use Rattle.dep_order.specs.Rows.{print_of}
+
+-- ---- rows
+-- they are pages of a space, and no more than a call may use
+pub record AreFit (pages : Pages) : Type 0 where
+  pub from : pages.from ≤ SPACE_PAGES
+  pub end : pages.end ≤ SPACE_PAGES
+  pub few : pages.end ≤ pages.from + RANGE_PAGES
+
+-- a stand-in for the row at a place that has none
+abbrev pub no_row : Row
+no_row = record { no = record { 0 = 0 }; pages = record { from = 0; end = 0 }; reads = false; fence = false; offload = None }
+
+-- the row at a place
+abbrev pub row_at : List Row → ℕ → Row
+row_at rows place = slice_index_or rows place no_row
+
+-- ---- lists
+-- the list of the calls whose numbers leave the same remainder
+abbrev pub number_list : ℕ → ℕ
+number_list number = NUMBERS + number % HELD_CALLS
+
+-- the list of an offload
+abbrev pub offload_list : ℕ → ℕ
+offload_list number = OFFLOADS + number
+
+-- the list of a page: that of its group
+abbrev pub page_list : ℕ → ℕ
+page_list page = page / GROUP_PAGES
+
+-- the place that a node belongs to
+abbrev pub place_of : ℕ → ℕ
+place_of node = node / NODES
+
+-- a node of the place is in the list
+abbrev pub Stands : NodeLists → ℕ → ℕ → Type 0
+Stands waits list place = (node : ℕ) × (IsIn waits list node × (place_of node ≡ place))
+
+-- the place stands in each list in which the row has to
+pub record StandsFor (waits : NodeLists) (place : ℕ) (row : Row) : Type 0 where
+  pub by_number : Stands waits (number_list row.no.0) place
+  pub by_fence : row.fence ≡ true → Stands waits FENCES place
+  pub by_offload : (number : ℕ) (odd : Bool) → row.offload ≡ Some (number, odd) → Stands waits (offload_list number) place
+  pub by_page : (page : ℕ) → row.pages.from ≤ page → page < row.pages.end → Stands waits (page_list page) place
+
+-- ---- walks
+-- the first row's call is earlier than the second's, which waits for it
+abbrev pub is_awaited : Row → Row → Bool
+is_awaited other row = nat_lt other.no.0 row.no.0 && waits_for (print_of other).1 (print_of row).1
+
+-- the row is the wanted one
+abbrev pub is_wanted : Wanted → Row → Bool
+is_wanted (Number number) row = row.no.0 == number.0
+is_wanted (AwaitedBy later) row = is_awaited row later
+
+-- the node is of a place that has the wanted row
+abbrev pub wanted_at : List Row → Wanted → ℕ → Bool
+wanted_at rows wanted node = is_wanted wanted (row_at rows (place_of node))
