@@ -1,6 +1,6 @@
 -- Which calls may go, read off the lists.
 use Rattle.std.proofs.Common.{◌≡◌, ◌≢◌, ℕ, ◌<◌, ◌≤◌, ◌&&◌, ◌||◌, inl, inr, Bool, true, false, ◌==◌, not, nat_lt, leb, List, [], ◌∷◌, find, filter, max, min, Option, Some, None, option_map, refl, sym, ap, subst, ◌∙◌, arith}
-use Rattle.std.specs.List.{list_all}
+use Rattle.std.specs.List.{list_all, list_any}
 use Rattle.std.proofs.lemmas.Bool.{cases_Bool, and_from, and_parts, and_left, and_right, or_cases, eqb-true, eq-eqb, ne_eqb, ltb-true, not-true, not_from_false, not_from_true, le-leb, lt-leb}
 use Rattle.flat_model.specs.Order.{Footprint, may_go, ready_in, waits_for, collide, share_page, offloads_conflict}
 use Rattle.index_lists.specs.NodeLists.{NodeLists, has, list_at, IsIn}
@@ -124,44 +124,28 @@ module _ {rows : List Row} {places waits : NodeLists} (s : IsSound rows places w
       let t = eq-eqb (row_at rows p).no.0 n is in
       only ∙ rw t refl
 
-  pub ready_nowhere : (n : ℕ) → find (wanted_at rows (Number (record { 0 = n }))) (list_at waits (number_list n)) ≡ None → ready_in (calls_of rows places) n ≡ false
-  ready_nowhere n e =
-      let calls : List (ℕ × Footprint) = calls_of rows places in
-      any_none (print_at rows) (λ k. k.0 == n && may_go calls k) (list_at places 0)
-      (λ p h. and_left ((row_at rows p).no.0 == n) (may_go calls (print_at rows p)) (ne_eqb (row_at rows p).no.0 n (number_absent n e p h)))
-
-  -- a call that isn't there can't be taken out
-  pub nothing_out : (n : ℕ) → find (wanted_at rows (Number (record { 0 = n }))) (list_at waits (number_list n)) ≡ None → calls_of rows places ≡ filter (λ k. not (k.0 == n)) (calls_of rows places)
-  nothing_out n e =
-      sym (filter_all (print_at rows) (λ k. not (k.0 == n)) (list_at places 0) (λ p h. not_from_false ((row_at rows p).no.0 == n) (ne_eqb (row_at rows p).no.0 n (number_absent n e p h))))
-
   -- ---- what the walks of an order give
   -- the rows are seen at a slice of them, and the calls as a contract sees them
   module _ (seen : List Row) (same : seen ≡ rows) {calls : List (ℕ × Footprint)} (view : calls_of rows places ≡ calls) where
-    sought : (number list : ℕ) → list ≡ number_list number → (o : Option ℕ) → o ≡ option_map place_of (find (wanted_at seen (Number (record { 0 = number }))) (list_at waits list))
+    sought : (number : ℕ) (o : Option ℕ) → o ≡ option_map place_of (find (wanted_at seen (Number (record { 0 = number }))) (list_at waits (number_list number)))
         → o ≡ option_map place_of (find (wanted_at rows (Number (record { 0 = number }))) (list_at waits (number_list number)))
-    sought number list is o e =
-        e
-        ∙ ap (λ rs. option_map place_of (find (wanted_at rs (Number (record { 0 = number }))) (list_at waits list))) same
-        ∙ ap (λ l. option_map place_of (find (wanted_at rows (Number (record { 0 = number }))) (list_at waits l))) is
+    sought number o e = e ∙ ap (λ rs. option_map place_of (find (wanted_at rs (Number (record { 0 = number }))) (list_at waits (number_list number)))) same
 
     -- a place that was sought by a number has the call
-    pub found_place : (number list : ℕ) → list ≡ number_list number → (place : ℕ) → Some place ≡ option_map place_of (find (wanted_at seen (Number (record { 0 = number }))) (list_at waits list))
+    pub found_place : (number place : ℕ) → Some place ≡ option_map place_of (find (wanted_at seen (Number (record { 0 = number }))) (list_at waits (number_list number)))
         → IsIn places 0 place × ((row_at rows place).no.0 ≡ number)
-    found_place number list is place e =
-        let there = this_sought place_of (wanted_at rows (Number (record { 0 = number }))) (list_at waits (number_list number)) place (sought number list is (Some place) e) in
+    found_place number place e =
+        let there = this_sought place_of (wanted_at rows (Number (record { 0 = number }))) (list_at waits (number_list number)) place (sought number (Some place) e) in
         let found = number_found number there.0 there.1.0 in
         (ap (has (list_at places 0)) (sym there.1.1) ∙ found.0, ap (λ p. (row_at rows p).no.0) (sym there.1.1) ∙ found.1)
 
-    found_none : (number list : ℕ) → list ≡ number_list number → None ≡ option_map place_of (find (wanted_at seen (Number (record { 0 = number }))) (list_at waits list))
-        → find (wanted_at rows (Number (record { 0 = number }))) (list_at waits (number_list number)) ≡ None
-    found_none number list is e = none_sought place_of (wanted_at rows (Number (record { 0 = number }))) (list_at waits (number_list number)) None (sought number list is None e) refl
-
-    pub none_ready : (number list : ℕ) → list ≡ number_list number → None ≡ option_map place_of (find (wanted_at seen (Number (record { 0 = number }))) (list_at waits list)) → false ≡ ready_in calls number
-    none_ready number list is e = sym (ap (λ ks. ready_in ks number) (sym view) ∙ ready_nowhere number (found_none number list is e))
-
-    pub none_out : (number list : ℕ) → list ≡ number_list number → None ≡ option_map place_of (find (wanted_at seen (Number (record { 0 = number }))) (list_at waits list)) → calls ≡ filter (λ k. not (k.0 == number)) calls
-    none_out number list is e = sym view ∙ nothing_out number (found_none number list is e) ∙ ap (filter (λ k. not (k.0 == number))) view
+    -- and there is one, where there is the call
+    pub place_there : (number : ℕ) → list_any (λ k. k.0 == number) calls ≡ true → None ≡ option_map place_of (find (wanted_at seen (Number (record { 0 = number }))) (list_at waits (number_list number))) → ⊥
+    place_there number there e =
+        let none = none_sought place_of (wanted_at rows (Number (record { 0 = number }))) (list_at waits (number_list number)) None (sought number None e) refl in
+        let absent = any_none (print_at rows) (λ k. k.0 == number) (list_at places 0) (λ p h. ne_eqb (row_at rows p).no.0 number (number_absent number none p h)) in
+        let here : list_any (λ k. k.0 == number) (calls_of rows places) ≡ true = rw view there in
+        cc
 
     pub found_ready : (number place : ℕ) → IsIn places 0 place → (row_at rows place).no.0 ≡ number → may_go calls (print_of (row_at rows place)) ≡ ready_in calls number
     found_ready number place held its = rw (← view) (sym (ready_there number place held its))

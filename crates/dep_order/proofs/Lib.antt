@@ -3,6 +3,7 @@ pub mod Fits
 pub mod Listed
 pub mod Joining
 pub mod Walks
+pub mod InOrder
 pub mod Rows
 pub mod Mapped
 pub mod Rising

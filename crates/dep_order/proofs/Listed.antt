@@ -1,7 +1,7 @@
 -- Lists of numbers after one was put in or taken out.
 use Rattle.std.proofs.Common.{◌≡◌, ◌≢◌, ℕ, zero, suc, ◌+◌, ◌<◌, ◌⊎◌, inl, inr, true, false, eqb, List, [], ◌∷◌, ◌++◌, length, drop, Some, refl, sym, ap, ◌∙◌, arith, slice_get}
 use Rattle.std.specs.List.{IsDistinct}
-use Rattle.std.proofs.lemmas.Bool.{cases_Bool, cases_eq, or_cases, or_left, or_right, eq-eqb, eqb-true}
+use Rattle.std.proofs.lemmas.Bool.{cases_Bool, cases_eq, or_cases, or_left, or_right, eq-eqb, eqb-true, false_from_ne_true}
 use Rattle.std.proofs.lemmas.List.{length-set, get_or-set_same, get_or-set_other}
 use Rattle.index_lists.specs.NodeLists.{NodeLists, has, list_at, IsIn, with_list, without}
 use Rattle.index_lists.proofs.Linking.{split_eq}
@@ -80,30 +80,20 @@ lists_same v l xs = length-set v.lists l xs
 
 -- node n put at the end of list l
 module _ (v : NodeLists) (l n : ℕ) (new : NodeLists) (e : new ≡ with_list v l (list_at v l ++ n ∷ [])) (within : l < length v.lists) where
-  here : list_at new l ≡ list_at v l ++ n ∷ []
-  here = ap (λ w. list_at w l) e ∙ list_at_same v l _ within
+  pub pushed_here : list_at new l ≡ list_at v l ++ n ∷ []
+  pushed_here = ap (λ w. list_at w l) e ∙ list_at_same v l _ within
 
-  there : (m : ℕ) → m ≢ l → list_at new m ≡ list_at v m
-  there m ne = ap (λ w. list_at w m) e ∙ list_at_other v l m _ ne
-
-  pub pushed_in : (m x : ℕ) → IsIn new m x → IsIn v m x ⊎ (x ≡ n)
-  pushed_in m x h = elim (cases_eq m l) [
-    | inl same ↦
-        elim (in_push (list_at v l) n x (ap (λ xs. has xs x) (sym here) ∙ ap (λ k. has (list_at new k) x) (sym same) ∙ h)) [
-          | inl old ↦ inl (ap (λ k. has (list_at v k) x) same ∙ old)
-          | inr is ↦ inr is
-        ]
-    | inr ne ↦ inl (ap (λ xs. has xs x) (sym (there m ne)) ∙ h)
-  ]
+  pub pushed_there : (m : ℕ) → m ≢ l → list_at new m ≡ list_at v m
+  pushed_there m ne = ap (λ w. list_at w m) e ∙ list_at_other v l m _ ne
 
   pub pushed_old : (m x : ℕ) → IsIn v m x → IsIn new m x
   pushed_old m x h = elim (cases_eq m l) [
-    | inl same ↦ ap (λ k. has (list_at new k) x) same ∙ ap (λ xs. has xs x) here ∙ push_old (list_at v l) n x (ap (λ k. has (list_at v k) x) (sym same) ∙ h)
-    | inr ne ↦ ap (λ xs. has xs x) (there m ne) ∙ h
+    | inl same ↦ ap (λ k. has (list_at new k) x) same ∙ ap (λ xs. has xs x) pushed_here ∙ push_old (list_at v l) n x (ap (λ k. has (list_at v k) x) (sym same) ∙ h)
+    | inr ne ↦ ap (λ xs. has xs x) (pushed_there m ne) ∙ h
   ]
 
   pub pushed_new : IsIn new l n
-  pushed_new = ap (λ xs. has xs n) here ∙ push_new (list_at v l) n
+  pushed_new = ap (λ xs. has xs n) pushed_here ∙ push_new (list_at v l) n
 
 -- node n taken out of list l
 module _ (v : NodeLists) (l n : ℕ) (new : NodeLists) (e : new ≡ with_list v l (without n (list_at v l))) (within : l < length v.lists) where
@@ -122,6 +112,13 @@ module _ (v : NodeLists) (l n : ℕ) (new : NodeLists) (e : new ≡ with_list v 
     | inr ne ↦
         let old : IsIn v m x = ap (λ xs. has xs x) (sym (same_else m ne)) ∙ h in
         (old, λ is. ne (alone m (ap (λ y. has (list_at v m) y) (sym is) ∙ old)))
+  ]
+
+  -- each list is now without it
+  pub removed_there : (m : ℕ) → ((k : ℕ) → IsIn v k n → k ≡ l) → list_at new m ≡ without n (list_at v m)
+  removed_there m alone = elim (cases_eq m l) [
+    | inl same ↦ ap (list_at new) same ∙ left ∙ ap (λ k. without n (list_at v k)) (sym same)
+    | inr ne ↦ same_else m ne ∙ sym (without_apart n (list_at v m) (false_from_ne_true _ (λ h. ne (alone m h))))
   ]
 
   pub removed_old : (m x : ℕ) → IsIn v m x → x ≢ n → IsIn new m x

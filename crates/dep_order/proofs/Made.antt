@@ -59,6 +59,7 @@ module _ (rows : List Row) (places waits : NodeLists) (n k m : ℕ) (er : rows �
     waits_valid = vw;
     stands = λ p h. absurd (none_held p h);
     used = λ l p h. absurd (let none = sym (ap (λ v. has (list_at v l) p) ew ∙ ap (λ xs. has xs p) (no_list m l)) ∙ h in cc);
+    in_order = λ l. let none = ap (λ v. list_at v l) ew ∙ no_list m l in rw none tt;
   }
 
 -- the rows of a vector that was empty, and was filled up

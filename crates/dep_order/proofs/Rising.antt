@@ -46,6 +46,14 @@ above_there at low (x ∷ xs) p h there = elim (split_eq p x) [
   | inr ne ↦ let behind : has xs p ≡ true = rw ne.1 at there in above_there at low xs p h.1 behind
 ]
 
+-- and each place has such a call
+pub below_there : (at : ℕ → ℕ × Footprint) (n : ℕ) (xs : List ℕ) (p : ℕ) → Below n (map at xs) → has xs p ≡ true → (at p).0 < n
+below_there at n [] p h there = absurd cc
+below_there at n (x ∷ xs) p h there = elim (split_eq p x) [
+  | inl e ↦ subst (λ q. (at q).0 < n) (sym e.0) h.0
+  | inr ne ↦ let behind : has xs p ≡ true = rw ne.1 at there in below_there at n xs p h.1 behind
+]
+
 -- no two have one number
 pub rising_alone : (at : ℕ → ℕ × Footprint) (xs : List ℕ) (p q : ℕ) → IsRising (map at xs) → has xs p ≡ true → has xs q ≡ true → (at p).0 ≡ (at q).0 → p ≡ q
 rising_alone at [] p q h there there' same = absurd cc

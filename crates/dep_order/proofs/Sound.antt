@@ -1,5 +1,6 @@
 -- What holds of the fields after a call was taken and after one has ended.
-use Rattle.std.proofs.Common.{◌≡◌, ◌≢◌, ℕ, ◌<◌, ◌⊎◌, inl, inr, ◌==◌, not, List, [], ◌∷◌, ◌++◌, length, map, drop, set, filter, Some, refl, sym, ap, subst, ◌∙◌, arith, slice_get}
+use Rattle.std.proofs.Common.{◌≡◌, ◌≢◌, ℕ, ◌+◌, ◌<◌, inl, inr, ◌==◌, not, List, [], ◌∷◌, ◌++◌, length, map, drop, set, filter, Some, refl, sym, ap, subst, ◌∙◌, arith, slice_get, ◌*◌}
+use Rattle.std.specs.List.{AllByRecursion}
 use Rattle.std.proofs.lemmas.Bool.{cases_eq, false_from_ne_true, eq-eqb, ne_eqb, not_from_false, not_from_true}
 use Rattle.std.proofs.lemmas.List.{length-set, length-drop, length_push, get_or-set_same, get_or-set_other}
 use Rattle.std.proofs.lemmas.Option.{slice_get_within}
@@ -7,11 +8,13 @@ use Rattle.index_lists.specs.NodeLists.{NodeLists, has, list_at, IsIn, IsFree, I
 use Rattle.index_lists.proofs.Edits.{has-without}
 use Rattle.dep_order.specs.declared.row.Row.{Row}
 use Rattle.dep_order.specs.Rows.{print_of}
-use Rattle.dep_order.specs.WaitLists.{AreFit, row_at, no_row, place_of, number_list, offload_list, page_list, Stands, StandsFor}
+use Rattle.dep_order.specs.WaitLists.{AreFit, row_at, no_row, place_of, number_at, number_list, offload_list, page_list, IsGrown, IsInOrder, Stands, StandsFor}
 use Rattle.dep_order.specs.Fields.{print_at, calls_of, IsRising, IsSound}
 use Rattle.dep_order.proofs.Listed.{has_at, list_at_same, list_at_other, lists_same, in_push, push_old, push_new, in_without, without_shorter, first_gone}
 use Rattle.dep_order.proofs.Mapped.{map_same, map_push, filter_one}
-use Rattle.dep_order.proofs.Rising.{Below, rising_push, rising_filter}
+use Rattle.dep_order.proofs.Joining.{AreAmong, grown_kept, grown_only}
+use Rattle.dep_order.proofs.InOrder.{order_grown}
+use Rattle.dep_order.proofs.Rising.{Below, below_there, rising_push, rising_filter}
 use Rattle.dep_order.proofs.Going.{alone}
 
 -- a place stands where it has to, also after others have joined or left
@@ -82,10 +85,14 @@ module _ {rows : List Row} {places waits : NodeLists} (s : IsSound rows places w
             ∙ ap (λ ks. ks ++ print_at rows' n ∷ []) (map_same (print_at rows) (print_at rows') (list_at places 0) (λ p h. ap print_of (old_other p h)))
             ∙ ap (λ r. calls_of rows places ++ print_of r ∷ []) row_here
 
+        its_number : (added : List ℕ) → AreAmong (n * 20) (n * 20 + 20) added → AllByRecursion (λ m. number_at rows' m ≡ row.no.0) added
+        its_number [] h = tt
+        its_number (m ∷ ms) h = (let e : place_of m ≡ n = omega (arith, h.0.0, h.0.1) in ap (λ p. (row_at rows' p).no.0) e ∙ ap (λ (r : Row). r.no.0) row_here, its_number ms h.1)
+
         pub new_sound : Below row.no.0 (calls_of rows places) → AreFit row.pages → IsValid p2 → w2.nodes ≡ waits.nodes → length w2.lists ≡ length waits.lists → IsValid w2
-            → StandsFor w2 n row → ((list node : ℕ) → IsIn waits list node → IsIn w2 list node) → ((list node : ℕ) → IsIn w2 list node → IsIn waits list node ⊎ (place_of node ≡ n))
+            → StandsFor w2 n row → ((list : ℕ) → IsGrown (n * 20) (n * 20 + 20) (list_at waits list) (list_at w2 list))
             → IsSound rows' p2 w2
-        new_sound later fits v2 nodes count vw joined kept only = record {
+        new_sound later fits v2 nodes count vw joined grown = record {
           row_count = ap (length {A = Row}) er ∙ length-set rows n row ∙ s.row_count;
           fit = λ p. elim (cases_eq p n) [
             | inl e ↦ subst (λ (r : Row). AreFit r.pages) (sym (ap (row_at rows') e ∙ row_here)) fits
@@ -109,13 +116,19 @@ module _ {rows : List Row} {places waits : NodeLists} (s : IsSound rows places w
           list_count = count ∙ s.list_count;
           waits_valid = vw;
           stands = λ p h. elim (in_push (list_at places 0) n p (ap (λ xs. has xs p) (sym zero2) ∙ h)) [
-            | inl old ↦ subst (StandsFor w2 p) (sym (old_other p old)) (stands_for waits w2 p (row_at rows p) (λ l m there is. kept l m there) (s.stands p old))
+            | inl old ↦ subst (StandsFor w2 p) (sym (old_other p old)) (stands_for waits w2 p (row_at rows p) (λ l m there is. grown_kept (n * 20) (n * 20 + 20) (list_at waits l) (list_at w2 l) m (grown l) there) (s.stands p old))
             | inr e ↦ subst (λ q. StandsFor w2 q (row_at rows' q)) (sym e) (subst (StandsFor w2 n) (sym row_here) joined)
           ];
-          used = λ l m h. elim (only l m h) [
+          used = λ l m h. elim (grown_only (n * 20) (n * 20 + 20) (list_at waits l) (list_at w2 l) m (grown l) h) [
             | inl old ↦ ap (λ xs. has xs (place_of m)) zero2 ∙ push_old (list_at places 0) n (place_of m) (s.used l m old)
-            | inr e ↦ ap (λ xs. has xs (place_of m)) zero2 ∙ ap (has (list_at places 0 ++ n ∷ [])) e ∙ push_new (list_at places 0) n
+            | inr its ↦ let e : place_of m ≡ n = omega (arith, its.0, its.1) in ap (λ xs. has xs (place_of m)) zero2 ∙ ap (has (list_at places 0 ++ n ∷ [])) e ∙ push_new (list_at places 0) n
           ];
+          in_order = λ l.
+              let now = grown l in
+              subst (IsInOrder (number_at rows')) (sym now.1.0) (
+              order_grown (number_at rows) (number_at rows') row.no.0 (list_at waits l) now.0 (s.in_order l)
+              (λ m there. let held = s.used l m there in (ap (λ (r : Row). r.no.0) (old_other (place_of m) held), omega (arith, below_there (print_at rows) row.no.0 (list_at places 0) (place_of m) later held)))
+              (its_number now.0 now.1.1));
         }
 
   -- ---- the call at place n taken out
@@ -154,8 +167,9 @@ module _ {rows : List Row} {places waits : NodeLists} (s : IsSound rows places w
       pub out_sound : IsValid p2 → w2.nodes ≡ waits.nodes → length w2.lists ≡ length waits.lists → IsValid w2
           → ((list node : ℕ) → IsIn waits list node → (place_of node ≡ n → ⊥) → IsIn w2 list node)
           → ((list node : ℕ) → IsIn w2 list node → IsIn waits list node × (place_of node ≡ n → ⊥))
+          → ((number : ℕ → ℕ) (list : ℕ) → IsInOrder number (list_at waits list) → IsInOrder number (list_at w2 list))
           → IsSound rows p2 w2
-      out_sound v2 nodes count vw kept only =
+      out_sound v2 nodes count vw kept only order =
           let shorter = without_shorter n (list_at places 0) (s.places_valid.distinct 0) held in
           record {
             row_count = s.row_count;
@@ -174,4 +188,5 @@ module _ {rows : List Row} {places waits : NodeLists} (s : IsSound rows places w
             used = λ l m h.
                 let old = only l m h in
                 ap (λ xs. has xs (place_of m)) out_zero2 ∙ has-without n (list_at places 0) (place_of m) old.1 (s.used l m old.0);
+            in_order = λ l. order (number_at rows) l (s.in_order l);
           }

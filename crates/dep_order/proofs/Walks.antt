@@ -71,7 +71,7 @@ module _ {test : ℕ → Bool} {xs : List ℕ} {at : Option ℕ} (come : HasCome
   stands_in = let h = come.within in rw e at h
 
   module _ (apart : IsDistinct nat_eq xs) where
-    left_here : rest_from at xs ≡ n ∷ rest_from (after n xs) xs
+    pub left_here : rest_from at xs ≡ n ∷ rest_from (after n xs) xs
     left_here = ap (λ o. rest_from o xs) e ∙ rest_from-after n xs apart stands_in
 
     pub found : test n ≡ true → find test xs ≡ Some n

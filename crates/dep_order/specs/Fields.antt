@@ -7,7 +7,7 @@ use Rattle.index_lists.specs.NodeLists.{NodeLists, list_at, IsIn, IsValid}
 use Rattle.dep_order.specs.declared.row.Row.{Row}
 use Rattle.dep_order.specs.declared.wait_lists.TheConstants.{NODES, LISTS}
 use Rattle.dep_order.specs.Rows.{print_of}
-use Rattle.dep_order.specs.WaitLists.{AreFit, row_at, place_of, StandsFor}
+use Rattle.dep_order.specs.WaitLists.{AreFit, row_at, place_of, number_at, IsInOrder, StandsFor}
 
 -- the number and footprint of the row at a place
 abbrev pub print_at : List Row → ℕ → ℕ × Footprint
@@ -32,9 +32,10 @@ pub record IsSound (rows : List Row) (places waits : NodeLists) : Type 0 where
   pub places_valid : IsValid places
   pub all_listed : length (list_at places 0) + length (list_at places 1) ≡ HELD_CALLS
   pub rising : IsRising (calls_of rows places)
-  -- these stand in their wait lists, and no others do
+  -- these stand in their lists, which no others do, in order
   pub node_count : waits.nodes ≡ HELD_CALLS * NODES
   pub list_count : length waits.lists ≡ LISTS
   pub waits_valid : IsValid waits
   pub stands : (place : ℕ) → IsIn places 0 place → StandsFor waits place (row_at rows place)
   pub used : (list node : ℕ) → IsIn waits list node → IsIn places 0 (place_of node)
+  pub in_order : (list : ℕ) → IsInOrder (number_at rows) (list_at waits list)

@@ -1,5 +1,6 @@
 -- In which lists a call stands, and which call a walk along one looks for. No public clause cites this module.
-use Rattle.std.specs.Prelude.{◌≡◌, ℕ, ◌+◌, ◌/◌, ◌%◌, ◌<◌, ◌≤◌, ◌==◌, Bool, true, false, ◌&&◌, nat_lt, List, Some, None, slice_index_or}
+use Rattle.std.specs.Prelude.{◌≡◌, ℕ, ◌+◌, ◌/◌, ◌%◌, ◌<◌, ◌≤◌, ◌==◌, Bool, true, false, ◌&&◌, nat_lt, List, [], ◌∷◌, ◌++◌, Some, None, slice_index_or}
+use Rattle.std.specs.List.{AllByRecursion}
 use Rattle.cl_types.specs.declared.limits.TheConstants.{HELD_CALLS, RANGE_PAGES, SPACE_PAGES}
 use Rattle.flat_model.specs.Order.{waits_for}
 use Rattle.index_lists.specs.NodeLists.{NodeLists, IsIn}
@@ -46,6 +47,19 @@ place_of node = node / NODES
 abbrev pub Stands : NodeLists → ℕ → ℕ → Type 0
 Stands waits list place = (node : ℕ) × (IsIn waits list node × (place_of node ≡ place))
 
+-- the second list is the first, and then nodes from `low` on to before `high`
+abbrev pub IsGrown : ℕ → ℕ → List ℕ → List ℕ → Type 0
+IsGrown low high old new = (added : List ℕ) × ((new ≡ old ++ added) × AllByRecursion (λ node. (low ≤ node) × (node < high)) added)
+
+-- the number of the call at a node's place
+abbrev pub number_at : List Row → ℕ → ℕ
+number_at rows node = (row_at rows (place_of node)).no.0
+
+-- what the nodes have as numbers never falls along the list
+abbrev pub IsInOrder : (ℕ → ℕ) → List ℕ → Type 0
+IsInOrder number [] = Unit {0}
+IsInOrder number (n ∷ ns) = AllByRecursion (λ m. number n ≤ number m) ns × IsInOrder number ns
+
 -- the place stands in each list in which the row has to
 pub record StandsFor (waits : NodeLists) (place : ℕ) (row : Row) : Type 0 where
   pub by_number : Stands waits (number_list row.no.0) place
@@ -57,6 +71,11 @@ pub record StandsFor (waits : NodeLists) (place : ℕ) (row : Row) : Type 0 wher
 -- the first row's call is earlier than the second's, which waits for it
 abbrev pub is_awaited : Row → Row → Bool
 is_awaited other row = nat_lt other.no.0 row.no.0 && waits_for (print_of other).1 (print_of row).1
+
+-- no call from this number on is wanted, but the one of the number itself
+abbrev pub number_wanted : Wanted → ℕ
+number_wanted (Number number) = number.0
+number_wanted (AwaitedBy later) = later.no.0
 
 -- the row is the wanted one
 abbrev pub is_wanted : Wanted → Row → Bool

@@ -11,10 +11,8 @@ ghost use Rattle.dep_order.specs.Rows.{print_of};
 ghost use Rattle.dep_order.specs.WaitLists.{AreFit};
 
 use crate::row::{NO_ROW, Row, row_of};
-use crate::wait_lists::{
-    FENCES, LISTS, NODES, Run, join, leave, number_list, offload_lists, page_lists,
-};
-use crate::walk::{Wanted, first_wanted, waits_in};
+use crate::wait_lists::{FENCES, LISTS, NODES, Run, join, leave, offload_lists, page_lists};
+use crate::walk::{place_of_number, waits_in};
 use cl_types::call::Call;
 use cl_types::items::NoMemory;
 use cl_types::limits::HELD_CALLS;
@@ -93,9 +91,8 @@ impl Order {
         requires { list_any (λ k. k.0 == no.0) self.now ≡ true }
         ensures { result ≡ ready_in self.now no.0 }
     {
-        let Some(place) = first_wanted(&self.waits, number_list(no), &self.rows, Wanted::Number(no))
-        else {
-            return false;
+        let Some(place) = place_of_number(&self.waits, &self.rows, no) else {
+            unreachable!()
         };
         self.goes(&self.rows[place as usize])
     }
@@ -105,9 +102,8 @@ impl Order {
         requires { list_any (λ k. k.0 == no.0) self.old ≡ true }
         ensures { self.new ≡ filter (λ k. not (k.0 == no.0)) self.old }
     {
-        let Some(place) = first_wanted(&self.waits, number_list(no), &self.rows, Wanted::Number(no))
-        else {
-            return;
+        let Some(place) = place_of_number(&self.waits, &self.rows, no) else {
+            unreachable!()
         };
         self.places.remove(place);
         self.places.push_back(FREE, place);

@@ -2,8 +2,8 @@
 //! all calls.
 
 ghost use Rattle.std.specs.Prelude.{◌≡◌, ◌⊎◌, Bool, ℕ, ◌+◌, ◌*◌, ◌-◌, ◌/◌, ◌<◌, ◌≤◌, length, true, Some};
-ghost use Rattle.index_lists.specs.NodeLists.{IsFree, IsIn, IsValid};
-ghost use Rattle.dep_order.specs.WaitLists.{AreFit, Stands, StandsFor, number_list as number_list_of, offload_list, page_list, place_of};
+ghost use Rattle.index_lists.specs.NodeLists.{IsFree, IsIn, IsValid, list_at};
+ghost use Rattle.dep_order.specs.WaitLists.{AreFit, IsGrown, IsInOrder, Stands, StandsFor, number_list as number_list_of, offload_list, page_list, place_of};
 
 use crate::row::Row;
 use cl_types::limits::{HELD_CALLS, RANGE_PAGES, SPACE_PAGES};
@@ -108,10 +108,9 @@ fn join_run(waits: &mut Lists, first: u32, run: Run)
     ensures nodes { waits.new.nodes ≡ waits.old.nodes }
     ensures count { length waits.new.lists ≡ length waits.old.lists }
     ensures valid { IsValid waits.new }
-    ensures kept { (list node : ℕ) → IsIn waits.old list node → IsIn waits.new list node }
     ensures put { (k : ℕ) → k < run.count → IsIn waits.new (run.from + k) (first + k) }
-    ensures only { (list node : ℕ) → IsIn waits.new list node
-        → IsIn waits.old list node ⊎ ((first ≤ node) × (node < first + run.count)) }
+    ensures grown { (list : ℕ) → IsGrown first (first + run.count)
+        (list_at waits.old list) (list_at waits.new list) }
 {
     for k in 0..run.count {
         waits.push_back(run.from + k, first + k);
@@ -130,9 +129,8 @@ pub fn join(waits: &mut Lists, place: u32, row: &Row)
     ensures count { length waits.new.lists ≡ length waits.old.lists }
     ensures valid { IsValid waits.new }
     ensures stands { StandsFor waits.new place row.now }
-    ensures kept { (list node : ℕ) → IsIn waits.old list node → IsIn waits.new list node }
-    ensures only { (list node : ℕ) → IsIn waits.new list node
-        → IsIn waits.old list node ⊎ (place_of node ≡ place) }
+    ensures grown { (list : ℕ) → IsGrown (place * NODES) (place * NODES + NODES)
+        (list_at waits.old list) (list_at waits.new list) }
 {
     let first = place * NODES;
     let by_number = Run {
@@ -157,6 +155,8 @@ pub fn leave(waits: &mut Lists, place: u32)
         → IsIn waits.new list node }
     ensures only { (list node : ℕ) → IsIn waits.new list node
         → IsIn waits.old list node × ¬ (place_of node ≡ place) }
+    ensures order { (number : ℕ → ℕ) (list : ℕ) → IsInOrder number (list_at waits.old list)
+        → IsInOrder number (list_at waits.new list) }
 {
     let first = place * NODES;
     for k in 0..NODES {
@@ -175,6 +175,8 @@ fn leave_one(waits: &mut Lists, node: u32)
         → IsIn waits.new list other }
     ensures only { (list other : ℕ) → IsIn waits.new list other
         → IsIn waits.old list other × ¬ (other ≡ node) }
+    ensures order { (number : ℕ → ℕ) (list : ℕ) → IsInOrder number (list_at waits.old list)
+        → IsInOrder number (list_at waits.new list) }
 {
     if waits.list_of(node).is_some() {
         waits.remove(node);

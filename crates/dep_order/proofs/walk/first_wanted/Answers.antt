@@ -1,7 +1,8 @@
-use Rattle.std.proofs.Common.{sym, ap, ◌∙◌, option_map}
+use Rattle.std.proofs.Common.{◌≤◌, arith, sym, ap, ◌∙◌, option_map}
 use Rattle.index_lists.specs.NodeLists.{list_at}
-use Rattle.dep_order.specs.WaitLists.{place_of, wanted_at}
+use Rattle.dep_order.specs.WaitLists.{number_at, place_of, wanted_at}
 use Rattle.dep_order.proofs.Walks.{begins, ends, stands_in, found, goes_on, shorter}
+use Rattle.dep_order.proofs.InOrder.{may_stop, none_past}
 use Rattle.dep_order.proofs.walk.first_wanted.Goals as goal
 
 pub loop-at-init : goal.loop-at-init
@@ -23,3 +24,10 @@ loop-at-preserved c =
 
 pub returns : goal.returns
 returns c = sym (ap (option_map place_of) (ends c.loop-at.invariant c.in_default.is))
+
+pub returns-then-row-number : goal.returns-then-row-number
+returns-then-row-number c =
+    let no_less : c.number.result.0 ≤ number_at c.args.rows.now c.in-Some.node = c.if-row-number.true in
+    sym (ap (option_map place_of) (
+    may_stop (number_at c.args.rows.now) c.loop-at.invariant c.in-Some.node c.in-Some.is (c.first-at.ensures.valid.distinct c.args.list) c.requires.in_order
+    (λ m le. none_past c.args.rows.now c.args.wanted c.in-Some.node m (sym c.is_wanted.ensures ∙ c.if-is_wanted.false) (omega (arith, no_less, c.number.ensures)) le)))

@@ -30,7 +30,7 @@ invariant_of-self c =
     new_sound c.self.invariant c.in-Some.place (sym c.in-Some.is ∙ c.pop_front.ensures.first) c.pop_front.new.self c.pop_front.ensures.rest
     c.row_of-row.result _ refl c.push_back.new.self c.join.new.waits c.push_back.ensures.lists
     (rw (ap (λ k. k.0) c.row_of-row.ensures.print, c.self.view_is) (below_all c.args.no.0 c.args.self.now c.requires.later))
-    c.row_of-row.ensures.fit c.push_back.ensures.valid c.join.ensures.nodes c.join.ensures.count c.join.ensures.valid c.join.ensures.stands c.join.ensures.kept c.join.ensures.only
+    c.row_of-row.ensures.fit c.push_back.ensures.valid c.join.ensures.nodes c.join.ensures.count c.join.ensures.valid c.join.ensures.stands c.join.ensures.grown
 
 pub returns : goal.returns
 returns c =
