@@ -1,5 +1,5 @@
 -- Which calls may go, read off the lists.
-use Rattle.std.proofs.Common.{◌≡◌, ◌≢◌, ℕ, ◌<◌, ◌≤◌, ◌&&◌, ◌||◌, inl, inr, Bool, true, false, ◌==◌, not, nat_lt, leb, List, [], ◌∷◌, find, filter, max, min, Option, Some, None, option_map, refl, sym, ap, subst, ◌∙◌, arith}
+use Rattle.std.proofs.Common.{◌≡◌, ◌≢◌, ℕ, ◌<◌, ◌≤◌, ◌&&◌, ◌||◌, inl, inr, Bool, true, false, ◌==◌, not, nat_lt, leb, List, [], ◌∷◌, find, max, min, Option, Some, None, option_map, refl, sym, ap, subst, ◌∙◌, arith}
 use Rattle.std.specs.List.{list_all, list_any}
 use Rattle.std.proofs.lemmas.Bool.{cases_Bool, and_from, and_parts, and_left, and_right, or_cases, eqb-true, eq-eqb, ne_eqb, ltb-true, not-true, not_from_false, not_from_true, le-leb, lt-leb}
 use Rattle.flat_model.specs.Order.{Footprint, may_go, ready_in, waits_for, collide, share_page, offloads_conflict}
@@ -11,7 +11,7 @@ use Rattle.dep_order.specs.Fields.{print_at, calls_of, IsSound}
 use Rattle.dep_order.specs.declared.row.Row.{Row}
 use Rattle.dep_order.specs.declared.walk.Wanted.TheVariants.{Number, AwaitedBy}
 use Rattle.dep_order.proofs.Overlaps.{overlap}
-use Rattle.dep_order.proofs.Mapped.{find_some, find_none, all_from, all_broken, any_none, any_one, filter_all, find_at, this_sought, none_sought}
+use Rattle.dep_order.proofs.Mapped.{find_some, find_none, all_from, all_broken, any_none, any_one, find_at, this_sought, none_sought}
 use Rattle.dep_order.proofs.Rising.{rising_alone}
 
 -- two offloads that conflict are one

@@ -6,9 +6,10 @@
 //! `Order` as its calls in order of issue, each by its number and its footprint: what its order
 //! rests on. Only `create` takes memory.
 //!
-//! A call is looked for in lists, and not among all calls: one for each group of 64 pages, for
-//! each offload and of the Fences. How these lie shows in no clause. That `ready` walks along the
-//! lists of its own call and of the Fences alone can be seen in the code, and no clause says it.
+//! Each call stands in lists: of the groups of 64 pages that its pages meet, of its offload, of the
+//! Fences, and of its number. `ready` walks along those of its own call and along that of the
+//! Fences, and no further than the calls before its own; `first_ready_of` asks this of each call in
+//! order. How the lists lie shows in no clause, and how far a walk goes can be seen in the code.
 //!
 //! What the calls do, and when they end, is left to others.
 #![tactic(auto)]

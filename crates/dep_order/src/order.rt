@@ -30,13 +30,13 @@ const FREE: u32 = 1;
 /// The calls of one client that have not ended, at most `HELD_CALLS`.
 #[derive(Drop)]
 pub struct Order {
-    // Each call has a place, below `HELD_CALLS`, and its row stands there.
+    // Each call has a place, below `HELD_CALLS`, at which its row stands.
     rows: Vec<Row>,
     //     HELD   7 -> 2 -> 5     in order of issue
     //     FREE   the other places
     places: Lists,
-    // Each place has `NODES` nodes, which stand in the lists that its call has to be found in:
-    //     group 3     node 0 of place 7 -> node 1 of place 5
+    // Each place has nodes, in all lists in which its call is looked for:
+    //     pages 64 to 127   node 3 of place 7 -> node 4 of place 5
     waits: Lists,
 }
 
@@ -181,7 +181,10 @@ impl Order {
 /// Lists of places, all of them in the list `FREE`.
 fn all_free(alloc: Global) -> Result<Lists, NoMemory>
     ensures free { IfOk result
-        (λ places. places ≡ record { nodes = 256; lists = [] ∷ range_with_len 0 256 ∷ [] }) }
+        (λ places. places ≡ record {
+          nodes = HELD_CALLS;
+          lists = [] ∷ range_with_len 0 HELD_CALLS ∷ [];
+        }) }
     ensures valid { IfOk result IsValid }
 {
     let Ok(mut places) = Lists::create(alloc, HELD_CALLS, 2) else {

@@ -79,12 +79,12 @@ fn two_reads_of_a_page_pass_and_a_write_waits_for_both(rt: HostRuntime) -> Resul
     order.add(CallNo(1), &read(rt.alloc(), 0x1000)?);
     order.add(CallNo(2), &read(rt.alloc(), 0x1fff)?);
     order.add(CallNo(3), &unlock(0x1000));
-    assert_eq!(rt; order.ready(CallNo(2)), true);
-    assert_eq!(rt; order.ready(CallNo(3)), false);
+    assert_eq!(rt; order.first_ready_of(CallNo(2)), Some(CallNo(2)));
+    assert_eq!(rt; order.first_ready_of(CallNo(3)), None);
     order.end(CallNo(1));
-    assert_eq!(rt; order.ready(CallNo(3)), false);
+    assert_eq!(rt; order.first_ready_of(CallNo(3)), None);
     order.end(CallNo(2));
-    assert_eq!(rt; order.ready(CallNo(3)), true);
+    assert_eq!(rt; order.first_ready(), Some(CallNo(3)));
     Ok(())
 }
 
@@ -95,14 +95,13 @@ fn an_odd_operation_waits_for_those_of_its_offload(rt: HostRuntime) -> Result<()
     order.add(CallNo(2), &offload(rt.alloc(), 7, 4));
     order.add(CallNo(3), &offload(rt.alloc(), 7, 1));
     order.add(CallNo(4), &offload(rt.alloc(), 255, 1));
-    assert_eq!(rt; order.ready(CallNo(2)), true);
-    assert_eq!(rt; order.ready(CallNo(3)), false);
-    assert_eq!(rt; order.ready(CallNo(4)), true);
+    assert_eq!(rt; order.first_ready_of(CallNo(2)), Some(CallNo(2)));
+    assert_eq!(rt; order.first_ready_of(CallNo(3)), Some(CallNo(4)));
     Ok(())
 }
 
 #[test]
-fn a_free_holds_its_last_group_and_no_page_more(rt: HostRuntime) -> Result<(), Fail> {
+fn a_free_holds_its_last_page_and_no_further_one(rt: HostRuntime) -> Result<(), Fail> {
     let mut order = Order::create(rt.alloc())?;
     let free = Call::Free {
         addr: Addr(0x1000),
@@ -111,10 +110,9 @@ fn a_free_holds_its_last_group_and_no_page_more(rt: HostRuntime) -> Result<(), F
     order.add(CallNo(1), &free);
     order.add(CallNo(2), &unlock(0x40_0000));
     order.add(CallNo(3), &unlock(0x40_1000));
-    assert_eq!(rt; order.ready(CallNo(2)), false);
-    assert_eq!(rt; order.ready(CallNo(3)), true);
+    assert_eq!(rt; order.first_ready_of(CallNo(2)), Some(CallNo(3)));
     order.end(CallNo(1));
-    assert_eq!(rt; order.ready(CallNo(2)), true);
+    assert_eq!(rt; order.first_ready_of(CallNo(2)), Some(CallNo(2)));
     Ok(())
 }
 
@@ -124,7 +122,7 @@ fn a_fence_holds_later_calls_back(rt: HostRuntime) -> Result<(), Fail> {
     order.add(CallNo(1), &unlock(0x1000));
     order.add(CallNo(2), &Call::Fence);
     order.add(CallNo(3), &unlock(0x2000));
-    assert_eq!(rt; order.ready(CallNo(2)), false);
+    assert_eq!(rt; order.first_ready_of(CallNo(2)), None);
     assert_eq!(rt; order.ready(CallNo(3)), false);
     order.end(CallNo(1));
     assert_eq!(rt; order.first_ready(), Some(CallNo(2)));

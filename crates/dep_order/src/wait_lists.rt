@@ -1,5 +1,8 @@
-//! The lists in which a call stands while it is held, so that others find it without a walk along
-//! all calls.
+//! The lists in which the place of a call stands while it is held, so that it is found without a
+//! walk along all calls.
+//!
+//!     0 ..      of each group of 64 pages       1280      of the Fences
+//!     1024 ..   of each offload                 1281 ..   of each remainder of a call's number
 
 ghost use Rattle.std.specs.Prelude.{◌≡◌, ◌⊎◌, Bool, ℕ, ◌+◌, ◌*◌, ◌-◌, ◌/◌, ◌<◌, ◌≤◌, length, true, Some};
 ghost use Rattle.index_lists.specs.NodeLists.{IsFree, IsIn, IsValid, list_at};
@@ -25,8 +28,9 @@ const NUMBERS: u32 = 1281;
 /// How many lists there are.
 pub const LISTS: u32 = 1537;
 
-/// How many nodes a place has, for the lists in which its call may stand: one by its number, one
-/// of the Fences, one of its offload, and one of each group that its pages meet.
+/// How many nodes a place has, one for each list in which it may stand: node 0 by the number of
+/// its call, 1 of the Fences, 2 of its offload, and from 3 on those of the groups that its pages
+/// meet. Node `k` of a place has the number `place * NODES + k`.
 pub const NODES: u32 = 20;
 
 const _: () = prove!(OFFLOADS == SPACE_PAGES / GROUP_PAGES);
@@ -37,6 +41,7 @@ const _: () = prove!(NUMBERS == FENCES + 1);
 
 const _: () = prove!(LISTS == NUMBERS + HELD_CALLS);
 
+// As many pages as a call may name meet at most so many groups.
 const _: () = prove!(NODES == 3 + (RANGE_PAGES + 2 * (GROUP_PAGES - 1)) / GROUP_PAGES);
 
 /// Some lists whose numbers follow one another.
@@ -97,7 +102,7 @@ pub fn page_lists(row: &Row) -> Run
     }
 }
 
-/// Puts nodes from `first` on into lists of a run, one into each.
+/// Puts a node into each list of the run, those from `first` on.
 fn join_run(waits: &mut Lists, first: u32, run: Run)
     requires lists { length waits.old.lists ≡ LISTS }
     requires nodes { waits.old.nodes ≡ HELD_CALLS * NODES }

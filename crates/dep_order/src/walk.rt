@@ -1,4 +1,4 @@
-//! Walks along the lists in which calls stand.
+//! Walks along the lists in which calls stand, each in order of issue.
 
 ghost use Rattle.std.specs.Prelude.{◌≡◌, ℕ, ◌+◌, ◌*◌, ◌<◌, ◌≤◌, true, false, length, find, option_map};
 ghost use Rattle.index_lists.specs.NodeLists.{IsIn, IsValid, list_at};
@@ -82,7 +82,7 @@ fn first_wanted(lists: &Lists, list: u32, rows: &[Row], wanted: Wanted) -> Optio
         if is_wanted(wanted, &row) {
             return Some(place);
         }
-        // The calls behind have no lesser numbers.
+        // The calls behind this one are later.
         if row.no.0 >= wanted.number().0 {
             return None;
         }
