@@ -1,0 +1,33 @@
+-- What a search for a key tells. No public clause cites this module.
+use Rattle.std.specs.Prelude.{◌≡◌, ◌≢◌, ℕ, ◌+◌, ◌-◌, ◌<◌, ◌≤◌, List, [], ◌∷◌, ◌++◌}
+use Rattle.kv_offload.specs.declared.kv.Found.{Found}
+use Rattle.kv_offload.specs.declared.layout.TheConstants.{HEADS}
+use Rattle.kv_offload.specs.Layout.{key_of, value_size, link_of, head_of}
+use Rattle.kv_offload.specs.Links.{behind}
+
+-- no record has the key
+abbrev pub IsAbsent : ℕ → List ℕ → List ℕ → Type 0
+IsAbsent records contents key = (slot : ℕ) → slot < records → key_of contents slot ≢ key
+
+-- the last of the nodes, or the first where there are no others
+abbrev pub last_of : ℕ → List ℕ → ℕ
+last_of node [] = node
+last_of node (x ∷ xs) = last_of x xs
+
+-- the nodes that a walk of this chain has passed, and where it stands
+pub record IsPassed (records : ℕ) (link : ℕ → ℕ) (head before : ℕ) (seen : List ℕ) : Type 0 where
+  pub split : behind records link head ≡ seen ++ behind records link before
+  pub last : last_of head seen ≡ before
+
+-- the record has the key, and stands in its chain behind these nodes
+pub record IsFound (records : ℕ) (contents key : List ℕ) (found : Found) : Type 0 where
+  pub above : HEADS ≤ found.node
+  pub below : found.node < HEADS + records
+  pub before_in : found.before < HEADS + records
+  pub key : key_of contents (found.node - HEADS) ≡ key
+  pub leads : link_of contents found.before ≡ found.node
+  pub next : link_of contents found.node ≡ found.next
+  pub value_len : found.value_len ≡ value_size contents (found.node - HEADS)
+  pub short : found.value_len ≤ 256
+  pub seen : List ℕ
+  pub passed : IsPassed records (link_of contents) (head_of key) found.before seen

@@ -1,0 +1,4 @@
+pub mod Layout
+pub mod Links
+pub mod Stored
+pub mod Found

@@ -1,0 +1,252 @@
+//! Where the store keeps its links, its count and its records, and each access to them.
+
+ghost use Rattle.std.specs.Prelude.{◌≡◌, ◌+◌, ◌*◌, ◌<◌, ◌≤◌, ◌↔◌, ℕ, length, take, slice_index, [], IsTrue};
+ghost use Rattle.cl_types.specs.Bytes.{bytes_at};
+ghost use Rattle.cl_types.specs.Spaces.{IsInOnePage};
+ghost use Rattle.kv_offload.specs.Layout.{View, Says, number_at, slot_place, link_place, link_of, count_of, key_of, value_size, value_of, with_link, with_slot, with_count, hash_of, head_of};
+ghost use Rattle.kv_offload.specs.Stored.{HasPages};
+
+use crate::kv::Kv;
+use cl_types::limits::PAGE_BYTES;
+use cl_types::space::Space;
+
+/// How many chains there are: that of the free slots, which is the first, and one for each hash of a key. A node is a
+/// chain's head, by its number, or a slot, by its number behind the heads.
+pub const HEADS: u32 = 1025;
+
+/// The head of the chain of the free slots. No link leads to it, so as a link it says that a chain ends.
+pub const FREE: u32 = 0;
+
+/// Where the key begins in a slot.
+pub const KEY_AT: u32 = 5;
+
+/// The greatest length of a key.
+pub const KEY_BYTES: u32 = 32;
+
+/// Where the value begins in a slot.
+pub const VALUE_AT: u32 = 37;
+
+/// The greatest length of a value.
+pub const VALUE_BYTES: u32 = 256;
+
+// How many bytes a slot has, and how many slots a page has.
+const SLOT_BYTES: u32 = 315;
+const PAGE_SLOTS: u32 = 13;
+
+// A slot has room for the greatest record, and a page for its slots.
+const _: () = prove!(VALUE_AT + VALUE_BYTES <= SLOT_BYTES);
+const _: () = prove!(PAGE_SLOTS * SLOT_BYTES <= PAGE_BYTES);
+
+// How many bytes of the first page the heads and the count take.
+const FRONT_BYTES: usize = 2052;
+
+/// What a record says to one who looks for a key.
+#[derive(Drop)]
+pub struct Visit {
+    /// Whether it has the key.
+    pub has_key: bool,
+    /// The node behind it, or `FREE` at the end of its chain.
+    pub next: u32,
+    /// The length of its value.
+    pub value_len: usize,
+}
+
+/// The head of the chain of a key.
+pub fn head_of(key: &[u8]) -> u32
+    requires { 1 ≤ length key.now }
+    ensures head { result ≡ head_of key.now }
+    ensures some { 1 ≤ result }
+    ensures below { result < HEADS }
+{
+    let mut hash = 0;
+    for byte in key {
+        hash = (hash * 31 + *byte as u32) % 1024;
+    }
+    1 + hash
+}
+
+/// Where a slot begins.
+fn slot_place(slot: u32) -> u32
+    requires { slot < 4096 }
+    ensures { result ≡ slot_place slot }
+{
+    PAGE_BYTES * (1 + slot / PAGE_SLOTS) + SLOT_BYTES * (slot % PAGE_SLOTS)
+}
+
+/// Where the link of a node stands.
+fn link_place(node: u32) -> u32
+    requires { node < HEADS + 4096 }
+    ensures { result ≡ link_place node }
+{
+    if node < HEADS {
+        2 * node
+    } else {
+        slot_place(node - HEADS)
+    }
+}
+
+/// The number of two bytes at a place.
+fn read_number<P: Space>(space: &mut P, place: u32) -> u32
+    requires honest { P.honest space.old }
+    requires within { IsInOnePage place 2 (length (P.contents space.old)) }
+    ensures number { result ≡ number_at place (P.contents space.old) }
+    ensures below { result < 65536 }
+    ensures contents { P.contents space.new ≡ P.contents space.old }
+    ensures rest { P.rest space.new ≡ P.rest space.old }
+    ensures honest { P.honest space.new }
+{
+    let mut bytes = [0; 2];
+    space.read_at(place, &mut bytes);
+    u16::from_be_bytes(bytes) as u32
+}
+
+/// Whether the bytes of a slot up to its value say that it has this key.
+fn begins_key(front: &[u8], key: &[u8]) -> bool
+    requires front { length front.now ≡ VALUE_AT }
+    requires key { length key.now ≤ KEY_BYTES }
+    ensures { IsTrue result ↔ (take (slice_index front.now 2) (bytes_at KEY_AT KEY_BYTES front.now) ≡ key.now) }
+{
+    let key_at = KEY_AT as usize;
+    front[2] as usize == key.len() && &front[key_at..key_at + key.len()] == key
+}
+
+impl Kv {
+    /// The node behind this one.
+    pub fn link<P: Space>(&self, space: &mut P, node: u32) -> u32
+        requires pages { HasPages self.now.records (P.contents space.old) }
+        requires node { node < HEADS + self.now.records }
+        requires honest { P.honest space.old }
+        ensures link { result ≡ link_of (P.contents space.old) node }
+        ensures contents { P.contents space.new ≡ P.contents space.old }
+        ensures rest { P.rest space.new ≡ P.rest space.old }
+        ensures honest { P.honest space.new }
+    {
+        read_number(space, link_place(node))
+    }
+
+    /// How many records are counted.
+    pub fn counted<P: Space>(&self, space: &mut P) -> u32
+        requires pages { HasPages self.now.records (P.contents space.old) }
+        requires honest { P.honest space.old }
+        ensures count { result ≡ count_of (P.contents space.old) }
+        ensures contents { P.contents space.new ≡ P.contents space.old }
+        ensures rest { P.rest space.new ≡ P.rest space.old }
+        ensures honest { P.honest space.new }
+    {
+        read_number(space, 2 * HEADS)
+    }
+
+    /// What the record in a slot says to one who looks for this key.
+    pub fn visit<P: Space>(&self, space: &mut P, slot: u32, key: &[u8]) -> Visit
+        requires pages { HasPages self.now.records (P.contents space.old) }
+        requires slot { slot < self.now.records }
+        requires key { length key.now ≤ KEY_BYTES }
+        requires honest { P.honest space.old }
+        ensures key { IsTrue result.has_key ↔ (key_of (P.contents space.old) slot ≡ key.now) }
+        ensures next { result.next ≡ link_of (P.contents space.old) (HEADS + slot) }
+        ensures value_len { result.value_len ≡ value_size (P.contents space.old) slot }
+        ensures contents { P.contents space.new ≡ P.contents space.old }
+        ensures rest { P.rest space.new ≡ P.rest space.old }
+        ensures honest { P.honest space.new }
+    {
+        let mut front = [0; VALUE_AT as usize];
+        space.read_at(slot_place(slot), &mut front);
+        Visit {
+            has_key: begins_key(&front, key),
+            next: u16::from_be_bytes([front[0], front[1]]) as u32,
+            value_len: u16::from_be_bytes([front[3], front[4]]) as usize,
+        }
+    }
+
+    /// Fills `out` with the front of the value in a slot.
+    pub fn read_value<P: Space>(&self, space: &mut P, slot: u32, out: &mut [u8])
+        requires pages { HasPages self.now.records (P.contents space.old) }
+        requires slot { slot < self.now.records }
+        requires whole { length out.old ≡ value_size (P.contents space.old) slot }
+        requires short { length out.old ≤ VALUE_BYTES }
+        requires honest { P.honest space.old }
+        ensures value { out.new ≡ value_of (P.contents space.old) slot }
+        ensures contents { P.contents space.new ≡ P.contents space.old }
+        ensures rest { P.rest space.new ≡ P.rest space.old }
+        ensures honest { P.honest space.new }
+    {
+        space.read_at(slot_place(slot) + VALUE_AT, out);
+    }
+
+    /// Links a node to another.
+    pub fn set_link<P: Space>(&self, space: &mut P, node: u32, to: u32)
+        requires pages { HasPages self.now.records (P.contents space.old) }
+        requires node { node < HEADS + self.now.records }
+        requires to { to < 65536 }
+        requires honest { P.honest space.old }
+        ensures says { (view : View) → Says self.now.records (P.contents space.old) view → Says self.now.records (P.contents space.new) (with_link view node to) }
+        ensures pages { HasPages self.now.records (P.contents space.new) }
+        ensures rest { P.rest space.new ≡ P.rest space.old }
+        ensures honest { P.honest space.new }
+    {
+        space.write_at(link_place(node), &(to as u16).to_be_bytes());
+    }
+
+    /// Sets how many records are counted.
+    pub fn set_count<P: Space>(&self, space: &mut P, count: u32)
+        requires pages { HasPages self.now.records (P.contents space.old) }
+        requires count { count < 65536 }
+        requires honest { P.honest space.old }
+        ensures says { (view : View) → Says self.now.records (P.contents space.old) view → Says self.now.records (P.contents space.new) (with_count view count) }
+        ensures pages { HasPages self.now.records (P.contents space.new) }
+        ensures rest { P.rest space.new ≡ P.rest space.old }
+        ensures honest { P.honest space.new }
+    {
+        space.write_at(2 * HEADS, &(count as u16).to_be_bytes());
+    }
+
+    /// Makes a slot free, with this node behind it.
+    pub fn clear<P: Space>(&self, space: &mut P, slot: u32, next: u32)
+        requires pages { HasPages self.now.records (P.contents space.old) }
+        requires slot { slot < self.now.records }
+        requires next { next < 65536 }
+        requires honest { P.honest space.old }
+        ensures says { (view : View) → Says self.now.records (P.contents space.old) view → Says self.now.records (P.contents space.new) (with_slot view slot next [] []) }
+        ensures pages { HasPages self.now.records (P.contents space.new) }
+        ensures rest { P.rest space.new ≡ P.rest space.old }
+        ensures honest { P.honest space.new }
+    {
+        let [next0, next1] = (next as u16).to_be_bytes();
+        space.write_at(slot_place(slot), &[next0, next1, 0, 0, 0]);
+    }
+
+    /// Puts a record into a slot, with this node behind it.
+    pub fn fill<P: Space>(&self, space: &mut P, slot: u32, next: u32, key: &[u8], value: &[u8])
+        requires pages { HasPages self.now.records (P.contents space.old) }
+        requires slot { slot < self.now.records }
+        requires next { next < 65536 }
+        requires key { length key.now ≤ KEY_BYTES }
+        requires value { length value.now ≤ VALUE_BYTES }
+        requires honest { P.honest space.old }
+        ensures says { (view : View) → Says self.now.records (P.contents space.old) view → Says self.now.records (P.contents space.new) (with_slot view slot next key.now value.now) }
+        ensures pages { HasPages self.now.records (P.contents space.new) }
+        ensures rest { P.rest space.new ≡ P.rest space.old }
+        ensures honest { P.honest space.new }
+    {
+        let place = slot_place(slot);
+        let [next0, next1] = (next as u16).to_be_bytes();
+        let [value_len0, value_len1] = (value.len() as u16).to_be_bytes();
+        let front = [next0, next1, key.len() as u8, value_len0, value_len1];
+        space.write_at(place, &front);
+        space.write_at(place + KEY_AT, key);
+        space.write_at(place + VALUE_AT, value);
+    }
+
+    /// Makes all chains end at their heads, and counts no record.
+    pub fn clear_heads<P: Space>(&self, space: &mut P)
+        requires pages { HasPages self.now.records (P.contents space.old) }
+        requires honest { P.honest space.old }
+        ensures links { (node : ℕ) → node < HEADS → link_of (P.contents space.new) node ≡ 0 }
+        ensures count { count_of (P.contents space.new) ≡ 0 }
+        ensures pages { HasPages self.now.records (P.contents space.new) }
+        ensures rest { P.rest space.new ≡ P.rest space.old }
+        ensures honest { P.honest space.new }
+    {
+        space.write_at(0, &[0; FRONT_BYTES]);
+    }
+}
