@@ -24,7 +24,7 @@ pub record IsFound (records : ℕ) (contents key : List ℕ) (found : Found) : T
   pub above : HEADS ≤ found.node
   pub below : found.node < HEADS + records
   pub before_in : found.before < HEADS + records
-  pub key : key_of contents (found.node - HEADS) ≡ key
+  pub has_key : key_of contents (found.node - HEADS) ≡ key
   pub leads : link_of contents found.before ≡ found.node
   pub next : link_of contents found.node ≡ found.next
   pub value_len : found.value_len ≡ value_size contents (found.node - HEADS)

@@ -1,9 +1,8 @@
 -- Where a store keeps its links, its count and its records. No public clause cites this module.
-use Rattle.std.specs.Prelude.{◌≡◌, ℕ, ◌+◌, ◌*◌, ◌-◌, ◌/◌, ◌%◌, ◌<◌, ◌==◌, List, [], ◌∷◌, take, if◌then◌else◌, length, slice_index, nat_lt}
-use Rattle.std.specs.Int.{from_be_bytes, w16}
-use Rattle.std.specs.List.{fold}
+use Rattle.std.specs.Prelude.{◌≡◌, ℕ, ◌+◌, ◌*◌, ◌-◌, ◌/◌, ◌%◌, ◌<◌, ◌==◌, List, [], ◌∷◌, ◌++◌, take, if◌then◌else◌, length, slice_index, nat_lt}
+use Rattle.std.specs.Int.{from_be_bytes, to_be_bytes, w16}
 use Rattle.cl_types.specs.Bytes.{bytes_at}
-use Rattle.kv_offload.specs.declared.layout.TheConstants.{HEADS, KEY_AT, KEY_BYTES, VALUE_AT, VALUE_BYTES}
+use Rattle.kv_offload.specs.declared.layout.TheConstants.{HEADS, KEY_AT, VALUE_AT, VALUE_BYTES}
 
 -- where the slot of this number begins: a page has 13 slots of 315 bytes, from page 1 on
 unfoldable pub slot_place : ℕ → ℕ
@@ -16,6 +15,10 @@ link_place node = if nat_lt node HEADS then 2 * node else slot_place (node - HEA
 -- the number of two bytes that stands at a place
 abbrev pub number_at : ℕ → List ℕ → ℕ
 number_at place contents = from_be_bytes w16 (bytes_at place 2 contents)
+
+-- the front of a slot: its link, and the lengths of its key and its value
+abbrev pub front_of : ℕ → ℕ → ℕ → List ℕ
+front_of next key_len value_len = to_be_bytes w16 next ++ key_len ∷ to_be_bytes w16 value_len
 
 -- the node behind this one in its chain, or 0 at the end
 unfoldable pub link_of : List ℕ → ℕ → ℕ
@@ -33,9 +36,9 @@ key_size contents slot = slice_index (bytes_at (slot_place slot + 2) 1 contents)
 unfoldable pub value_size : List ℕ → ℕ → ℕ
 value_size contents slot = number_at (slot_place slot + 3) contents
 
--- the key in a slot, which has no bytes in a free one
+-- the key in a slot, as long as its length says, which is a byte; it has no bytes in a free one
 unfoldable pub key_of : List ℕ → ℕ → List ℕ
-key_of contents slot = take (key_size contents slot) (bytes_at (slot_place slot + KEY_AT) KEY_BYTES contents)
+key_of contents slot = take (key_size contents slot) (bytes_at (slot_place slot + KEY_AT) 255 contents)
 
 -- the value in a slot
 unfoldable pub value_of : List ℕ → ℕ → List ℕ
@@ -89,9 +92,14 @@ with_slot view slot next key value = record {
 abbrev pub with_count : View → ℕ → View
 with_count view count = record view { count = count }
 
+-- the hash of a key with these bytes behind those that have this hash
+abbrev pub hash_on : ℕ → List ℕ → ℕ
+hash_on hash [] = hash
+hash_on hash (byte ∷ bytes) = hash_on ((hash * 31 + byte) % 1024) bytes
+
 -- the hash of a key, below 1,024
 unfoldable pub hash_of : List ℕ → ℕ
-hash_of key = fold (λ hash byte. (hash * 31 + byte) % 1024) 0 key
+hash_of key = hash_on 0 key
 
 -- the head of the chain of a key, which has a byte; that of the free slots is 0
 abbrev pub head_of : List ℕ → ℕ

@@ -25,7 +25,7 @@ behind records link node = chain (HEADS + records) link node
 pub record IsAtHome (records : ℕ) (home : ℕ → ℕ) (head node : ℕ) : Type 0 where
   pub above : HEADS ≤ node
   pub below : node < HEADS + records
-  pub home : home node ≡ head
+  pub at_home : home node ≡ head
 
 -- the links spell a chain for each head, and each slot's node is in that of its home
 pub record IsTied (records : ℕ) (link home : ℕ → ℕ) (at : ℕ → List ℕ) : Type 0 where

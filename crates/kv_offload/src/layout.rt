@@ -3,7 +3,7 @@
 ghost use Rattle.std.specs.Prelude.{◌≡◌, ◌+◌, ◌*◌, ◌<◌, ◌≤◌, ◌↔◌, ℕ, length, take, slice_index, [], IsTrue};
 ghost use Rattle.cl_types.specs.Bytes.{bytes_at};
 ghost use Rattle.cl_types.specs.Spaces.{IsInOnePage};
-ghost use Rattle.kv_offload.specs.Layout.{View, Says, number_at, slot_place, link_place, link_of, count_of, key_of, value_size, value_of, with_link, with_slot, with_count, hash_of, head_of};
+ghost use Rattle.kv_offload.specs.Layout.{View, Says, number_at, front_of, slot_place, link_place, link_of, count_of, key_of, value_size, value_of, with_link, with_slot, with_count, hash_of, head_of};
 ghost use Rattle.kv_offload.specs.Stored.{HasPages};
 
 use crate::kv::Kv;
@@ -36,9 +36,6 @@ const PAGE_SLOTS: u32 = 13;
 // A slot has room for the greatest record, and a page for its slots.
 const _: () = prove!(VALUE_AT + VALUE_BYTES <= SLOT_BYTES);
 const _: () = prove!(PAGE_SLOTS * SLOT_BYTES <= PAGE_BYTES);
-
-// How many bytes of the first page the heads and the count take.
-const FRONT_BYTES: usize = 2052;
 
 /// What a record says to one who looks for a key.
 #[derive(Drop)]
@@ -100,14 +97,35 @@ fn read_number<P: Space>(space: &mut P, place: u32) -> u32
     u16::from_be_bytes(bytes) as u32
 }
 
-/// Whether the bytes of a slot up to its value say that it has this key.
+/// The number of two bytes at a place of some bytes.
+fn number_in(bytes: &[u8], at: usize) -> u32
+    requires { at + 2 ≤ length bytes.now }
+    ensures { result ≡ number_at at bytes.now }
+{
+    u16::from_be_bytes([bytes[at], bytes[at + 1]]) as u32
+}
+
+/// Whether a slot, of which these are the bytes up to its value, has the key.
 fn begins_key(front: &[u8], key: &[u8]) -> bool
     requires front { length front.now ≡ VALUE_AT }
     requires key { length key.now ≤ KEY_BYTES }
-    ensures { IsTrue result ↔ (take (slice_index front.now 2) (bytes_at KEY_AT KEY_BYTES front.now) ≡ key.now) }
+    ensures byte { slice_index front.now 2 < 256 }
+    ensures test { IsTrue result ↔ ((slice_index front.now 2 ≡ length key.now) × (bytes_at KEY_AT (length key.now) front.now ≡ key.now)) }
 {
     let key_at = KEY_AT as usize;
     front[2] as usize == key.len() && &front[key_at..key_at + key.len()] == key
+}
+
+/// The front of a slot: its link and its two lengths.
+fn front_of(next: u32, key_len: usize, value_len: usize) -> [u8; 5]
+    requires next { next < 65536 }
+    requires key_len { key_len ≤ KEY_BYTES }
+    requires value_len { value_len ≤ VALUE_BYTES }
+    ensures { result ≡ front_of next key_len value_len }
+{
+    let link = (next as u16).to_be_bytes();
+    let value_bytes = (value_len as u16).to_be_bytes();
+    [link[0], link[1], key_len as u8, value_bytes[0], value_bytes[1]]
 }
 
 impl Kv {
@@ -153,8 +171,8 @@ impl Kv {
         space.read_at(slot_place(slot), &mut front);
         Visit {
             has_key: begins_key(&front, key),
-            next: u16::from_be_bytes([front[0], front[1]]) as u32,
-            value_len: u16::from_be_bytes([front[3], front[4]]) as usize,
+            next: number_in(&front, 0),
+            value_len: number_in(&front, 3) as usize,
         }
     }
 
@@ -211,8 +229,7 @@ impl Kv {
         ensures rest { P.rest space.new ≡ P.rest space.old }
         ensures honest { P.honest space.new }
     {
-        let [next0, next1] = (next as u16).to_be_bytes();
-        space.write_at(slot_place(slot), &[next0, next1, 0, 0, 0]);
+        space.write_at(slot_place(slot), &front_of(next, 0, 0));
     }
 
     /// Puts a record into a slot, with this node behind it.
@@ -229,10 +246,7 @@ impl Kv {
         ensures honest { P.honest space.new }
     {
         let place = slot_place(slot);
-        let [next0, next1] = (next as u16).to_be_bytes();
-        let [value_len0, value_len1] = (value.len() as u16).to_be_bytes();
-        let front = [next0, next1, key.len() as u8, value_len0, value_len1];
-        space.write_at(place, &front);
+        space.write_at(place, &front_of(next, key.len(), value.len()));
         space.write_at(place + KEY_AT, key);
         space.write_at(place + VALUE_AT, value);
     }
@@ -247,6 +261,9 @@ impl Kv {
         ensures rest { P.rest space.new ≡ P.rest space.old }
         ensures honest { P.honest space.new }
     {
-        space.write_at(0, &[0; FRONT_BYTES]);
+        for head in 0..HEADS {
+            self.set_link(space, head, FREE);
+        }
+        self.set_count(space, 0);
     }
 }

@@ -1,0 +1,56 @@
+-- Pieces of a list into which bytes were put.
+use Rattle.std.proofs.Common.{◌≡◌, ℕ, zero, suc, ◌+◌, ◌-◌, ◌≤◌, List, [], ◌∷◌, ◌++◌, refl, sym, ap, ◌∙◌, arith, length, length-append, take, drop, append_assoc}
+use Rattle.std.proofs.Math.Seq.{take-append_seam}
+use Rattle.std.proofs.lemmas.List.{length-drop, take-append-le, drop-append-le, take-append-drop, drop-drop}
+use Rattle.cl_types.specs.Bytes.{bytes_at, with_bytes}
+
+drop_past : {X : Type 0} (xs ys : List X) (n : ℕ) → length xs ≤ n → drop n (xs ++ ys) ≡ drop (n - length xs) ys
+drop_past [] ys n h = ap (λ m. drop m ys) (let z : n ≡ n - 0 = omega arith in z)
+drop_past (x ∷ xs) ys zero h = absurd (omega arith)
+drop_past (x ∷ xs) ys (suc n) h = drop_past xs ys n (omega arith) ∙ ap (λ m. drop m ys) (let z : n - length xs ≡ suc n - suc (length xs) = omega arith in z)
+
+length_front : (n : ℕ) (xs : List ℕ) → n ≤ length xs → length (take n xs) ≡ n
+length_front zero xs h = refl
+length_front (suc n) [] h = absurd (omega arith)
+length_front (suc n) (x ∷ xs) h = let z : length (take n xs) ≡ n = length_front n xs (omega arith) in omega arith
+
+pub length_with : (at : ℕ) (new old : List ℕ) → at + length new ≤ length old → length (with_bytes at new old) ≡ length old
+length_with at new old within =
+    length-append (take at old ++ new) (drop (at + length new) old)
+    ∙ sum (length-append (take at old) new) (length-drop (at + length new) old) (length_front at old (omega arith))
+  where
+    sum : length (take at old ++ new) ≡ length (take at old) + length new → length (drop (at + length new) old) ≡ length old - (at + length new) → length (take at old) ≡ at
+        → length (take at old ++ new) + length (drop (at + length new) old) ≡ length old
+    sum a b c = omega arith
+
+piece_before : (off n : ℕ) (xs ys : List ℕ) → off + n ≤ length xs → bytes_at off n (xs ++ ys) ≡ bytes_at off n xs
+piece_before off n xs ys within =
+    let a : length (drop off xs) ≡ length xs - off = length-drop off xs in
+    ap (take n) (drop-append-le off xs ys (omega arith)) ∙ take-append-le n (drop off xs) ys (omega arith)
+
+-- what stands before the place stays
+pub piece_kept_before : (at off n : ℕ) (new old : List ℕ) → off + n ≤ at → at ≤ length old → bytes_at off n (with_bytes at new old) ≡ bytes_at off n old
+piece_kept_before at off n new old low within =
+    let len : length (take at old) ≡ at = length_front at old within in
+    ap (bytes_at off n) (append_assoc (take at old) new (drop (at + length new) old))
+    ∙ piece_before off n (take at old) (new ++ drop (at + length new) old) (omega arith)
+    ∙ sym (piece_before off n (take at old) (drop at old) (omega arith))
+    ∙ ap (bytes_at off n) (take-append-drop at old)
+
+-- and what stands behind the bytes
+pub piece_kept_behind : (at off n : ℕ) (new old : List ℕ) → at + length new ≤ off → at ≤ length old → bytes_at off n (with_bytes at new old) ≡ bytes_at off n old
+piece_kept_behind at off n new old high within =
+    let len : length (take at old) ≡ at = length_front at old within in
+    let front : length (take at old ++ new) ≡ length (take at old) + length new = length-append (take at old) new in
+    ap (take n) (drop_past (take at old ++ new) (drop (at + length new) old) off (omega arith)
+    ∙ drop-drop (off - length (take at old ++ new)) (at + length new) old
+    ∙ ap (λ m. drop m old) (let z : at + length new + (off - length (take at old ++ new)) ≡ off = omega arith in z))
+
+-- the bytes that were put in stand there
+pub piece_put : (at : ℕ) (new old : List ℕ) → at ≤ length old → bytes_at at (length new) (with_bytes at new old) ≡ new
+piece_put at new old within =
+    let len : length (take at old) ≡ at = length_front at old within in
+    ap (bytes_at at (length new)) (append_assoc (take at old) new (drop (at + length new) old))
+    ∙ ap (take (length new)) (drop_past (take at old) (new ++ drop (at + length new) old) at (omega arith)
+    ∙ ap (λ m. drop m (new ++ drop (at + length new) old)) (let z : at - length (take at old) ≡ 0 = omega arith in z))
+    ∙ take-append_seam new (drop (at + length new) old)
