@@ -5,3 +5,9 @@ pub mod PlaceLemmas
 pub mod SaysLemmas
 pub mod HeadLemmas
 pub mod VisitLemmas
+pub mod TiedLemmas
+pub mod SoundLemmas
+pub mod CallLemmas
+pub mod EmptyLemmas
+pub mod StepLemmas
+pub mod StoreLemmas

@@ -39,6 +39,13 @@ has_seen (x ∷ seen) rest n h = elim (has_cases x n seen h) [
   | inr there ↦ has_more x n (seen ++ rest) (has_seen seen rest n there)
 ]
 
+pub has_push : (seen : List ℕ) (n m : ℕ) → has (seen ++ n ∷ []) m ≡ true → (has seen m ≡ true) ⊎ (m ≡ n)
+has_push [] n m h = elim (has_cases n m [] h) [ inl e ↦ inr e | inr there ↦ inl there ]
+has_push (x ∷ seen) n m h = elim (has_cases x m (seen ++ n ∷ []) h) [
+  | inl e ↦ inl (rw (eq-eqb m x e) refl)
+  | inr there ↦ elim (has_push seen n m there) [ inl was ↦ inl (has_more x m seen was) | inr e ↦ inr e ]
+]
+
 -- the last node stands among those that lead to it
 pub last_in : (x : ℕ) (seen rest : List ℕ) → has (x ∷ (seen ++ rest)) (last_of x seen) ≡ true
 last_in x [] rest = has_head x rest

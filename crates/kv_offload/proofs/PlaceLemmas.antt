@@ -163,3 +163,9 @@ leaves_wider from' size' low high leaves = record {
 
 pub pages_left : {from size records : ℕ} {old new : List ℕ} → Leaves from size old new → HasPages records old → HasPages records new
 pages_left leaves has = record { some = has.some; few = has.few; pages = omega (arith, has.pages, leaves.long) }
+
+-- a store has its pages after a write to the first page
+pub front_pages : (records at : ℕ) (bytes old new : List ℕ) → HasPages records old → at + length bytes ≤ 4096 → new ≡ with_bytes at bytes old → HasPages records new
+front_pages records at bytes old new has fits put =
+    let leaves : Leaves at (length bytes) old new = rw put (leaves_put at bytes old (omega (arith, has.pages))) in
+    pages_left leaves has

@@ -1,9 +1,9 @@
 -- What a search for a key tells. No public clause cites this module.
-use Rattle.std.specs.Prelude.{◌≡◌, ◌≢◌, ℕ, ◌+◌, ◌-◌, ◌<◌, ◌≤◌, List, [], ◌∷◌, ◌++◌}
+use Rattle.std.specs.Prelude.{◌≡◌, ◌≢◌, true, ℕ, ◌+◌, ◌-◌, ◌<◌, ◌≤◌, List, [], ◌∷◌, ◌++◌}
 use Rattle.kv_offload.specs.declared.kv.Found.{Found}
 use Rattle.kv_offload.specs.declared.layout.TheConstants.{HEADS}
 use Rattle.kv_offload.specs.Layout.{key_of, value_size, link_of, head_of}
-use Rattle.kv_offload.specs.Links.{behind}
+use Rattle.kv_offload.specs.Links.{has, behind}
 
 -- no record has the key
 abbrev pub IsAbsent : ℕ → List ℕ → List ℕ → Type 0
@@ -19,6 +19,14 @@ pub record IsPassed (records : ℕ) (link : ℕ → ℕ) (head before : ℕ) (se
   pub split : behind records link head ≡ seen ++ behind records link before
   pub last : last_of head seen ≡ before
 
+-- a walk along the chain of a key stands before this node, and none that it has passed has the key
+pub record IsWalked (records : ℕ) (contents key : List ℕ) (before node : ℕ) : Type 0 where
+  pub leads : link_of contents before ≡ node
+  pub before_in : before < HEADS + records
+  pub seen : List ℕ
+  pub passed : IsPassed records (link_of contents) (head_of key) before seen
+  pub others : (slot : ℕ) → slot < records → has seen (HEADS + slot) ≡ true → key_of contents slot ≢ key
+
 -- the record has the key, and stands in its chain behind these nodes
 pub record IsFound (records : ℕ) (contents key : List ℕ) (found : Found) : Type 0 where
   pub above : HEADS ≤ found.node
@@ -27,6 +35,7 @@ pub record IsFound (records : ℕ) (contents key : List ℕ) (found : Found) : T
   pub has_key : key_of contents (found.node - HEADS) ≡ key
   pub leads : link_of contents found.before ≡ found.node
   pub next : link_of contents found.node ≡ found.next
+  pub next_below : found.next < 65536
   pub value_len : found.value_len ≡ value_size contents (found.node - HEADS)
   pub short : found.value_len ≤ 256
   pub seen : List ℕ

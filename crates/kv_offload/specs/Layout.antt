@@ -109,3 +109,7 @@ head_of (byte ∷ bytes) = 1 + hash_of (byte ∷ bytes)
 -- the head of the chain in which a slot's node stands
 abbrev pub home_in : View → ℕ → ℕ
 home_in view node = head_of (view.key (node - HEADS))
+
+-- the node behind that of a slot while all slots are free
+abbrev pub next_free : ℕ → ℕ → ℕ
+next_free records slot = if nat_lt (slot + 1) records then HEADS + (slot + 1) else 0

@@ -1,10 +1,10 @@
 //! The store and its calls.
 
-ghost use Rattle.std.specs.Prelude.{◌≡◌, ◌≢◌, ◌+◌, ◌*◌, ◌-◌, ◌<◌, ◌≤◌, ℕ, [], ◌∷◌, ◌++◌, length, IfNone, IfSome, IfErr, IfOk, drop};
+ghost use Rattle.std.specs.Prelude.{◌≡◌, ◌≢◌, ◌+◌, ◌*◌, ◌-◌, ◌<◌, ◌≤◌, ℕ, [], ◌∷◌, ◌++◌, length, ◌==◌, if◌then◌else◌, IfNone, IfSome, IfErr, IfOk, drop};
 ghost use Rattle.std.specs.FinMap.Entries.{find};
 ghost use Rattle.flat_model.specs.Objects.{key_cmp, kv_put, kv_get, kv_delete};
 ghost use Rattle.kv_offload.specs.Found.{IsFound, IsAbsent};
-ghost use Rattle.kv_offload.specs.Layout.{key_of, head_of, link_of, value_size};
+ghost use Rattle.kv_offload.specs.Layout.{key_of, head_of, link_of, count_of, next_free, value_size};
 ghost use Rattle.kv_offload.specs.Stored.{IsStore, HasPages, pairs_in, object_in, given_by, answered};
 
 use crate::layout::{FREE, HEADS, head_of};
@@ -42,10 +42,7 @@ impl Kv {
     {
         self.clear_heads(space);
         self.set_link(space, FREE, HEADS);
-        for slot in 0..self.records {
-            let next = if slot + 1 < self.records { HEADS + slot + 1 } else { FREE };
-            self.clear(space, slot, next);
-        }
+        self.free_slots(space);
     }
 
     /// Puts the value at the key. A new key is refused as `ObjectFull` exactly where `records` keys are stored.
@@ -109,12 +106,7 @@ impl Kv {
         let Some(found) = self.find(space, key) else {
             return Err(Refusal::NoKey);
         };
-        let first_free = self.link(space, FREE);
-        self.set_link(space, found.before, found.next);
-        self.clear(space, found.node - HEADS, first_free);
-        self.set_link(space, FREE, found.node);
-        let count = self.counted(space);
-        self.set_count(space, count - 1);
+        self.remove(space, key, found);
         Ok(())
     }
 
@@ -128,6 +120,36 @@ impl Kv {
         ensures honest { P.honest space.new }
     {
         self.counted(space)
+    }
+
+    /// The node behind that of a slot while all slots are free.
+    fn next_free(&self, slot: u32) -> u32
+        requires slot { slot < self.now.records }
+        requires few { self.now.records ≤ 4096 }
+        ensures node { result ≡ next_free self.now.records slot }
+        ensures below { result < 65536 }
+    {
+        if slot + 1 < self.records {
+            HEADS + (slot + 1)
+        } else {
+            FREE
+        }
+    }
+
+    /// Makes all slots free, each with the next one behind it.
+    fn free_slots<P: Space>(&self, space: &mut P)
+        requires pages { HasPages self.now.records (P.contents space.old) }
+        requires links { (node : ℕ) → node < HEADS → link_of (P.contents space.old) node ≡ (if node == 0 then HEADS else 0) }
+        requires count { count_of (P.contents space.old) ≡ 0 }
+        requires honest { P.honest space.old }
+        ensures store { IsStore self.now.records (P.contents space.new) }
+        ensures empty { pairs_in self.now.records (P.contents space.new) ≡ [] }
+        ensures rest { P.rest space.new ≡ P.rest space.old }
+        ensures honest { P.honest space.new }
+    {
+        for slot in 0..self.records {
+            self.clear(space, slot, self.next_free(slot));
+        }
     }
 
     /// The record of a key.
@@ -183,5 +205,24 @@ impl Kv {
         self.set_link(space, head, node);
         let count = self.counted(space);
         self.set_count(space, count + 1);
+    }
+
+    /// Takes a record out of its chain, and makes its slot the first free one.
+    fn remove<P: Space>(&self, space: &mut P, key: &[u8], found: Found)
+        requires store { IsStore self.now.records (P.contents space.old) }
+        requires some { 1 ≤ length key.now }
+        requires found { IsFound self.now.records (P.contents space.old) key.now found }
+        requires honest { P.honest space.old }
+        ensures given { Ok ([], object_in self.now.records (P.contents space.new)) ≡ kv_delete self.now.records (pairs_in self.now.records (P.contents space.old)) key.now }
+        ensures store { IsStore self.now.records (P.contents space.new) }
+        ensures rest { P.rest space.new ≡ P.rest space.old }
+        ensures honest { P.honest space.new }
+    {
+        let first_free = self.link(space, FREE);
+        self.set_link(space, found.before, found.next);
+        self.clear(space, found.node - HEADS, first_free);
+        self.set_link(space, FREE, found.node);
+        let count = self.counted(space);
+        self.set_count(space, count - 1);
     }
 }

@@ -100,7 +100,8 @@ fn read_number<P: Space>(space: &mut P, place: u32) -> u32
 /// The number of two bytes at a place of some bytes.
 fn number_in(bytes: &[u8], at: usize) -> u32
     requires { at + 2 ≤ length bytes.now }
-    ensures { result ≡ number_at at bytes.now }
+    ensures number { result ≡ number_at at bytes.now }
+    ensures below { result < 65536 }
 {
     u16::from_be_bytes([bytes[at], bytes[at + 1]]) as u32
 }
@@ -135,6 +136,7 @@ impl Kv {
         requires node { node < HEADS + self.now.records }
         requires honest { P.honest space.old }
         ensures link { result ≡ link_of (P.contents space.old) node }
+        ensures below { result < 65536 }
         ensures contents { P.contents space.new ≡ P.contents space.old }
         ensures rest { P.rest space.new ≡ P.rest space.old }
         ensures honest { P.honest space.new }
@@ -162,6 +164,7 @@ impl Kv {
         requires honest { P.honest space.old }
         ensures key { IsTrue result.has_key ↔ (key_of (P.contents space.old) slot ≡ key.now) }
         ensures next { result.next ≡ link_of (P.contents space.old) (HEADS + slot) }
+        ensures below { result.next < 65536 }
         ensures value_len { result.value_len ≡ value_size (P.contents space.old) slot }
         ensures contents { P.contents space.new ≡ P.contents space.old }
         ensures rest { P.rest space.new ≡ P.rest space.old }

@@ -13,8 +13,8 @@ returns-clause-key g c =
 
 pub returns-clause-next : goal.returns-clause-next
 returns-clause-next g c =
-    c.number_in.ensures ∙ next_is (g.P.Space.contents c.args.space.now) c.read_at.new.out c.slot_place.result c.args.slot c.slot_place.ensures c.read_at.ensures.read
+    c.number_in.ensures.number ∙ next_is (g.P.Space.contents c.args.space.now) c.read_at.new.out c.slot_place.result c.args.slot c.slot_place.ensures c.read_at.ensures.read
 
 pub returns-clause-value_len : goal.returns-clause-value_len
 returns-clause-value_len g c =
-    c.number_in-2.ensures ∙ value_len_is (g.P.Space.contents c.args.space.now) c.read_at.new.out c.slot_place.result c.args.slot c.slot_place.ensures c.read_at.ensures.read
+    c.number_in-2.ensures.number ∙ value_len_is (g.P.Space.contents c.args.space.now) c.read_at.new.out c.slot_place.result c.args.slot c.slot_place.ensures c.read_at.ensures.read
