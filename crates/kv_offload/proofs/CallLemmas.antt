@@ -1,5 +1,5 @@
 -- What the object's operations give in each case.
-use Rattle.std.proofs.Common.{◌≡◌, ◌≢◌, ℕ, ◌+◌, ◌-◌, ◌<◌, ◌≤◌, Bool, true, false, not, List, [], ◌∷◌, ◌++◌, length, append_assoc, drop, Option, Some, None, Ok, Err, refl, sym, ap, subst, ◌∙◌, arith}
+use Rattle.std.proofs.Common.{◌≡◌, ◌≢◌, ℕ, ◌+◌, ◌-◌, ◌<◌, ◌≤◌, Bool, true, false, not, inl, inr, List, [], ◌∷◌, ◌++◌, length, append_assoc, drop, Option, Some, None, Ok, Err, refl, sym, ap, subst, ◌∙◌, arith}
 use Rattle.std.specs.Prelude.{leb}
 use Rattle.std.specs.Ordering.{eq_by_cmp}
 use Rattle.std.specs.FinMap.Entries.{find, put, where_key}
@@ -79,6 +79,12 @@ module _ {records : ℕ} {contents key : List ℕ} (store : IsStore records cont
         behind_rest store.sound.tied (head_of key) (walk.seen ++ node ∷ []) (drop 1 (behind records (link_of contents) before)) (head_below key) (walk_split full) in
         let last : last_of (head_of key) (walk.seen ++ node ∷ []) ≡ node = last_more (head_of key) node walk.seen in
         walk_first full ∙ ap (λ xs. node ∷ xs) (sym (ap (behind records (link_of contents)) (sym last) ∙ rest))
+
+    -- what is read behind a slot's node
+    pub walk_reads : (now : List ℕ) (next : ℕ) → now ≡ contents → HEADS ≤ node → next ≡ link_of now (HEADS + (node - HEADS)) → next ≡ link_of contents node
+    walk_reads now next e above is =
+        let own : HEADS + (node - HEADS) ≡ node = omega (arith, above) in
+        is ∙ ap (λ (bytes : List ℕ). link_of bytes (HEADS + (node - HEADS))) e ∙ ap (link_of contents) own
 
     -- it is a slot's, in the key's chain
     pub walk_node : node ≢ 0 → IsAtHome records (home_in (view_of contents)) (head_of key) node

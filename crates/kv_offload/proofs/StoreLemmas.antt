@@ -1,5 +1,5 @@
 -- A store after the writes of a call.
-use Rattle.std.proofs.Common.{◌≡◌, ◌≢◌, ℕ, ◌+◌, ◌-◌, ◌<◌, ◌≤◌, true, false, not, eqb, ◌⊎◌, inl, inr, List, [], ◌∷◌, length, Some, None, Ok, Err, Result, refl, sym, ap, subst, ◌∙◌, arith}
+use Rattle.std.proofs.Common.{◌≡◌, ◌≢◌, ℕ, ◌+◌, ◌-◌, ◌<◌, ◌≤◌, true, false, not, eqb, ◌⊎◌, inl, inr, List, [], ◌∷◌, length, take, Some, None, Ok, Err, Result, refl, sym, ap, subst, ◌∙◌, arith}
 use Rattle.std.specs.Ordering.{eq_by_cmp}
 use Rattle.std.specs.FinMap.Entries.{find, put, where_key}
 use Rattle.cl_types.specs.declared.reply.Refusal.{Refusal}
@@ -132,3 +132,32 @@ found_counted {records} {old} {key} {found} f store some =
 -- as many records are counted as there are slots at most
 pub counted_below : {records : ℕ} {old : List ℕ} → IsStore records old → count_of old ≤ 4096
 counted_below {records} {old} store = let room = store.sound.room in let few = store.pages.few in omega (arith, room, few)
+
+pub got_given : {records : ℕ} {old key : List ℕ} {found : Found} → IsFound records old key found → (now out : List ℕ) → IsStore records old → key ≢ [] → now ≡ old
+    → take found.value_len out ≡ value_of old (found.node - HEADS)
+    → Ok (take found.value_len out, object_in records now) ≡ kv_get records (pairs_in records old) (find key_cmp key (pairs_in records old))
+got_given {records} {old} {key} {found} f now out store some e there =
+    ap (λ (bytes : List ℕ). Ok (take found.value_len out, object_in records bytes)) e
+    ∙ ap (λ (answer : List ℕ). Ok (answer, object_in records old)) there
+    ∙ sym (ap (kv_get records (pairs_in records old)) (found_find f store some))
+
+pub absent_got : (records : ℕ) (old key : List ℕ) → IsAbsent records old key → Err NoKey ≡ kv_get records (pairs_in records old) (find key_cmp key (pairs_in records old))
+absent_got records old key absent = sym (ap (kv_get records (pairs_in records old)) (absent_find records old key absent))
+
+pub absent_deleted : (records : ℕ) (old key : List ℕ) → IsAbsent records old key → Err NoKey ≡ kv_delete records (pairs_in records old) key
+absent_deleted records old key absent = sym (delete_none records (pairs_in records old) key key (absent_find records old key absent))
+
+-- the count stays until it is set
+pub added_count : (records node head free first : ℕ) (key value old c0 c1 c2 c3 : List ℕ) → c0 ≡ old → Turns records c0 c1 (λ view. with_link view 0 free)
+    → Turns records c1 c2 (λ view. with_slot view (node - HEADS) first key value) → Turns records c2 c3 (λ view. with_link view head node) → count_of c3 ≡ count_of old
+added_count records node head free first key value old c0 c1 c2 c3 e0 t1 t2 t3 =
+    let s1 : Says records c1 (with_link (view_of old) 0 free) = t1 (view_of old) (says_same records old c0 e0) in
+    (t3 (with_slot (with_link (view_of old) 0 free) (node - HEADS) first key value) (t2 (with_link (view_of old) 0 free) s1)).count
+
+pub removed_count : {records : ℕ} {old key : List ℕ} {found : Found} → IsFound records old key found → (free : ℕ) (c0 c1 c2 c3 : List ℕ)
+    → c0 ≡ old → Turns records c0 c1 (λ view. with_link view found.before found.next) → Turns records c1 c2 (λ view. with_slot view (found.node - HEADS) free [] [])
+    → Turns records c2 c3 (λ view. with_link view 0 found.node) → count_of c3 ≡ count_of old
+removed_count {records} {old} {key} {found} f free c0 c1 c2 c3 e0 t1 t2 t3 =
+    let one : View = with_link (view_of old) found.before found.next in
+    let two : View = with_slot (with_link (view_of old) found.before found.next) (found.node - HEADS) free [] [] in
+    (t3 two (t2 one (t1 (view_of old) (says_same records old c0 e0)))).count
