@@ -79,6 +79,8 @@ impl Kv {
         requires honest { P.honest space.old }
         ensures given { given_by result (answered result out.new) (object_in self.now.records (P.contents space.new)) ≡ kv_get self.now.records (pairs_in self.now.records (P.contents space.old)) (find key_cmp key.now (pairs_in self.now.records (P.contents space.old))) }
         ensures size { IfOk result (λ size. size ≤ 256) }
+        ensures behind { IfOk result (λ size. drop size out.new ≡ drop size out.old) }
+        ensures refused { IfErr result (λ _. out.new ≡ out.old) }
         ensures contents { P.contents space.new ≡ P.contents space.old }
         ensures rest { P.rest space.new ≡ P.rest space.old }
         ensures honest { P.honest space.new }
