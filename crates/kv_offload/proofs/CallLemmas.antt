@@ -124,7 +124,15 @@ module _ {records : ℕ} {contents key : List ℕ} (store : IsStore records cont
     walk_found next value_len full low has is size =
         let home = walk_node full in
         record {
-          above = home.above; below = home.below; before_in = walk.before_in; has_key = has; leads = walk.leads; next = sym is; next_below = low; value_len = size;
+          above = home.above;
+          below = home.below;
+          before_in = walk.before_in;
+          has_key = has;
+          leads = walk.leads;
+          next = sym is;
+          next_below = low;
+          value_len = size;
           short = (let low = store.sound.sizes (node - HEADS) (let a = home.above in let b = home.below in omega (arith, a, b)) in omega (arith, low, size));
-          seen = walk.seen; passed = walk.passed;
+          seen = walk.seen;
+          passed = walk.passed;
         }

@@ -52,9 +52,11 @@ linked_run : (link : ℕ → ℕ) (end k from node : ℕ) → from + k ≡ end �
     → ((n : ℕ) → from ≤ n → n < end → link n ≡ node_or_end end (n + 1)) → IsLinked link node (run k from)
 unfolding run
 linked_run link end zero from node is some first links = first ∙ outside end from (omega (arith, is))
-linked_run link end (suc k) from node is some first links =
-    (first ∙ inside end from (omega (arith, is)), some,
-    linked_run link end k (from + 1) from (omega (arith, is)) (omega arith) (links from (omega arith) (omega (arith, is))) (λ n low high. links n (omega arith) high))
+linked_run link end (suc k) from node is some first links = (
+  first ∙ inside end from (omega (arith, is)),
+  some,
+  linked_run link end k (from + 1) from (omega (arith, is)) (omega arith) (links from (omega arith) (omega (arith, is))) (λ n low high. links n (omega arith) high),
+)
 
 -- what the bytes of a store say whose slots up to one are free
 pub record AreFree (records done : ℕ) (contents : List ℕ) : Type 0 where
@@ -85,8 +87,8 @@ module _ {records : ℕ} {contents : List ℕ} (pages : HasPages records content
       linked_run (link_of contents) (HEADS + records) records HEADS 0 refl (omega arith)
       (free.heads 0 less ∙ sym (inside (HEADS + records) HEADS (let some = pages.some in omega (arith, some))))
       (λ n low high.
-        let own : HEADS + (n - HEADS) ≡ n = omega (arith, low) in
-        ap (link_of contents) (sym own) ∙ free.links (n - HEADS) (omega (arith, low, high)) ∙ next_is records (n - HEADS) ∙ ap (λ m. node_or_end (HEADS + records) (m + 1)) own)
+      let own : HEADS + (n - HEADS) ≡ n = omega (arith, low) in
+      ap (link_of contents) (sym own) ∙ free.links (n - HEADS) (omega (arith, low, high)) ∙ next_is records (n - HEADS) ∙ ap (λ m. node_or_end (HEADS + records) (m + 1)) own)
   free_linked (suc head) less = free.heads (suc head) less ∙ not_first (suc head) (omega arith)
 
   free_home : (node : ℕ) → HEADS ≤ node → node < HEADS + records → home_in (view_of contents) node ≡ 0

@@ -197,6 +197,6 @@ filled slot next key value old mid last new within small short low is_mid is_las
           ∙ ap (λ n. bytes_at (slot_place slot + 37) n (with_bytes (slot_place slot + 37) value last)) size
           ∙ piece_put (slot_place slot + 37) value last (omega (arith, first.long, second.long));
       leaves = leaves_then (leaves_wider (slot_place slot) 293 (omega arith) (omega arith) first)
-      (leaves_then (leaves_wider (slot_place slot) 293 (omega arith) (omega arith) second)
-      (leaves_wider (slot_place slot) 293 (omega arith) (omega arith) third));
+          (leaves_then (leaves_wider (slot_place slot) 293 (omega arith) (omega arith) second)
+          (leaves_wider (slot_place slot) 293 (omega arith) (omega arith) third));
     }

@@ -88,21 +88,26 @@ sound_replaced {records} {view} sound slot key value less some low has =
       | inr ne ↦ but_other view.link (HEADS + slot) node (view.link (HEADS + slot)) ne
     ] in
     let changes : Changes view.key view.value new.key new.value key slot records = record {
-      some = some; within = less; was = inl has; is = inl (keys slot ∙ has);
+      some = some;
+      within = less;
+      was = inl has;
+      is = inl (keys slot ∙ has);
       keys = λ other l ne. keys other;
       values = λ other l ne. but_other view.value slot other value ne;
       apart = λ other l ne e. ne (sound.apart other slot l less (λ z. some (sym e ∙ z)) (e ∙ sym has));
     } in
     let pairs : pairs_of new.key new.value records ≡ put key_cmp key value (pairs_of view.key view.value records) = pairs-put changes value (keys slot ∙ has) (but_here view.value slot value) in
     let tied : IsTied records new.link (home_in new) (behind records view.link) = tied_same sound.tied new.link (home_in new) (λ node l. links node) (λ node m l. ap head_of (keys (node - HEADS))) in
-    let found : find key_cmp key (pairs_of view.key view.value records) ≡ Some (view.value slot) = find-found view.key view.value key slot records some less has changes.apart in
-    (record {
-      sizes = sizes_with records slot (length value) view.size low sound.sizes;
-      apart = apart_with records slot new.key view.key key sound.apart (keys slot ∙ has) (λ other ne. keys other) (λ other l ne full e. changes.apart other l ne e);
-      tied = tied_behind tied (home_below new);
-      room = (let e = ap length (behind_is tied 0 (omega arith)) in omega (arith, e, sound.room));
-      counted = sound.counted ∙ sym (ap length pairs ∙ length-pairs_kept key value (view.value slot) (pairs_of view.key view.value records) (is_sorted-pairs view.key view.value records) found);
-    }, pairs)
+    let found : find key_cmp key (pairs_of view.key view.value records) ≡ Some (view.value slot) = find-found view.key view.value key slot records some less has changes.apart in (
+      record {
+        sizes = sizes_with records slot (length value) view.size low sound.sizes;
+        apart = apart_with records slot new.key view.key key sound.apart (keys slot ∙ has) (λ other ne. keys other) (λ other l ne full e. changes.apart other l ne e);
+        tied = tied_behind tied (home_below new);
+        room = (let e = ap length (behind_is tied 0 (omega arith)) in omega (arith, e, sound.room));
+        counted = sound.counted ∙ sym (ap length pairs ∙ length-pairs_kept key value (view.value slot) (pairs_of view.key view.value records) (is_sorted-pairs view.key view.value records) found);
+      },
+      pairs,
+    )
 
 -- ---- a record is added
 head_zero : (key : List ℕ) → head_of key ≡ 0 → key ≡ []
@@ -181,7 +186,10 @@ sound_added {records} {view} {node} {free} {first} {count} {key} {value} sound a
     let joins : Joins view.link new.link at (but_at (but_at at 0 rest) head (node ∷ at head)) head node rest =
     added_links view.link at head node free first rest at_node.above (head_some key a.some) (head_below key) was a.is_free a.is_first in
     let changes : Changes view.key view.value new.key new.value key (node - HEADS) records = record {
-      some = a.some; within = less; was = inr free_key; is = inl (but_here view.key (node - HEADS) key);
+      some = a.some;
+      within = less;
+      was = inr free_key;
+      is = inl (but_here view.key (node - HEADS) key);
       keys = λ other l ne. but_other view.key (node - HEADS) other key ne;
       values = λ other l ne. but_other view.value (node - HEADS) other value ne;
       apart = λ other l ne. a.absent other l;
@@ -294,7 +302,10 @@ sound_removed {records} {view} {before} {node} {next} {free} {count} {key} {seen
     removed_links view.link at head before node next free seen rest r.above (head_some key r.some) some_before not_node was r.last r.is_next r.is_free in
     let apart_keys : (other : ℕ) → other < records → other ≢ node - HEADS → view.key other ≢ key = λ other l ne e. ne (sound.apart other (node - HEADS) l less (λ z. r.some (sym e ∙ z)) (e ∙ sym r.has_key)) in
     let changes : Changes view.key view.value new.key new.value key (node - HEADS) records = record {
-      some = r.some; within = less; was = inl r.has_key; is = inr (but_here view.key (node - HEADS) []);
+      some = r.some;
+      within = less;
+      was = inl r.has_key;
+      is = inr (but_here view.key (node - HEADS) []);
       keys = λ other l ne. but_other view.key (node - HEADS) other [] ne;
       values = λ other l ne. but_other view.value (node - HEADS) other [] ne;
       apart = apart_keys;

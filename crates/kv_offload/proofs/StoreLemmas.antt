@@ -45,8 +45,14 @@ added_store records node head free first count key value old c0 c1 c2 c3 c4 new 
     t4 (with_link (with_slot (with_link (view_of old) 0 free) (node - HEADS) first key value) (head_of key) node)
     (subst (λ contents. Says records contents (with_link (with_slot (with_link (view_of old) 0 free) (node - HEADS) first key value) (head_of key) node)) (sym e4) s3) in
     let adding : Adding records (view_of old) node free first count key value = record {
-      is_node = is_node; full = full; is_free = is_free; is_first = is_first ∙ ap (link_of old) is_head; is_count = is_count ∙ s3.count;
-      some = some; low = low; absent = absent;
+      is_node = is_node;
+      full = full;
+      is_free = is_free;
+      is_first = is_first ∙ ap (link_of old) is_head;
+      is_count = is_count ∙ s3.count;
+      some = some;
+      low = low;
+      absent = absent;
     } in
     let added : IsAdded records (view_of old) (with_added (view_of old) node free first count key value) key value = sound_added store.sound adding in
     record { store = record { pages = pages; sound = sound_says s4 added.sound }; pairs = says_pairs s4 ∙ added.pairs }
@@ -110,8 +116,16 @@ removed_store {records} {old} {key} {found} f free count c0 c1 c2 c3 c4 new stor
     let s3 : Says records c3 three = t3 two (t2 one (t1 (view_of old) (says_same records old c0 e0))) in
     let s4 : Says records new (with_removed (view_of old) found.before found.node found.next free count) = t4 three (subst (λ contents. Says records contents three) (sym e4) s3) in
     let removing : Removing records (view_of old) found.before found.node found.next free count key f.seen = record {
-      above = f.above; below = f.below; has_key = f.has_key; leads = f.leads; is_next = sym f.next; is_free = is_free; is_count = is_count ∙ s3.count;
-      some = some; split = f.passed.split; last = f.passed.last;
+      above = f.above;
+      below = f.below;
+      has_key = f.has_key;
+      leads = f.leads;
+      is_next = sym f.next;
+      is_free = is_free;
+      is_count = is_count ∙ s3.count;
+      some = some;
+      split = f.passed.split;
+      last = f.passed.last;
     } in
     let removed : IsRemoved records (view_of old) (with_removed (view_of old) found.before found.node found.next free count) key = sound_removed store.sound removing in
     record { store = record { pages = pages; sound = sound_says s4 removed.sound }; pairs = says_pairs s4 ∙ removed.pairs }

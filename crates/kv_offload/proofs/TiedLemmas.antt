@@ -91,12 +91,16 @@ module _ {records head node : ℕ} {link home link' home' : ℕ → ℕ} {at at'
   joins_linked : (h : ℕ) → h < HEADS → IsLinked link' h (at' h)
   joins_linked h less = elim (cases_eq h 0) [
     | inl e ↦ rw (e, joins.at_free) (relinked link link' node 0 free joins.first
-      (λ m hm. let is = in_free m hm in joins.others m (λ z. omega (arith, z, is.above)) (free_apart m hm) (λ z. omega (arith, z, is.above))) free_linked.2)
+        (λ m hm. let is = in_free m hm in joins.others m (λ z. omega (arith, z, is.above)) (free_apart m hm) (λ z. omega (arith, z, is.above))) free_linked.2)
     | inr full ↦ elim (cases_eq h head) [
-      | inl e ↦ rw (e, joins.at_head) (joins.third, free_linked.1, relinked link link' head node (at head) joins.second
-        (λ m hm. let is = tied.member head m below hm in joins.others m (λ z. omega (arith, z, is.above)) (joins_apart head m (λ z. omega (arith, z)) is) (λ z. omega (arith, z, is.above))) (tied.linked head below))
+      | inl e ↦ rw (e, joins.at_head) (
+        joins.third,
+        free_linked.1,
+        relinked link link' head node (at head) joins.second
+            (λ m hm. let is = tied.member head m below hm in joins.others m (λ z. omega (arith, z, is.above)) (joins_apart head m (λ z. omega (arith, z)) is) (λ z. omega (arith, z, is.above))) (tied.linked head below),
+      )
       | inr other ↦ rw (joins.at_others h full other) (relinked link link' h h (at h) (joins.others h full (λ z. omega (arith, z, free_node.above)) other)
-        (λ m hm. let is = tied.member h m less hm in joins.others m (λ z. omega (arith, z, is.above)) (joins_apart h m full is) (λ z. omega (arith, z, is.above))) (tied.linked h less))
+          (λ m hm. let is = tied.member h m less hm in joins.others m (λ z. omega (arith, z, is.above)) (joins_apart h m full is) (λ z. omega (arith, z, is.above))) (tied.linked h less))
     ]
   ]
 
@@ -184,12 +188,16 @@ module _ {records head node : ℕ} {link home link' home' : ℕ → ℕ} {at at'
 
   parts_linked : (h : ℕ) → h < HEADS → IsLinked link' h (at' h)
   parts_linked h less = elim (cases_eq h 0) [
-    | inl e ↦ rw (e, parts.at_free) (parts.third, (let z = own_node.above in omega (arith, z)), relinked link link' 0 node (at 0) parts.second
-      (λ m hm. let is = tied.member 0 m (omega arith) hm in let ne : 0 ≢ head = λ z. omega (arith, z) in parts.others m (λ z. omega (arith, z, is.above)) (last_apart 0 m ne is) (parts_apart 0 m ne is)) (tied.linked 0 (omega arith)))
+    | inl e ↦ rw (e, parts.at_free) (
+      parts.third,
+      (let z = own_node.above in omega (arith, z)),
+      relinked link link' 0 node (at 0) parts.second
+          (λ m hm. let is = tied.member 0 m (omega arith) hm in let ne : 0 ≢ head = λ z. omega (arith, z) in parts.others m (λ z. omega (arith, z, is.above)) (last_apart 0 m ne is) (parts_apart 0 m ne is)) (tied.linked 0 (omega arith)),
+    )
     | inr full ↦ elim (cases_eq h head) [
       | inl e ↦ rw (e, parts.at_head) (unlinked link link' head node seen rest (omega arith) parts.first (λ m pos last own. parts.others m (λ z. omega (arith, z, pos)) last own) own_linked)
       | inr other ↦ rw (parts.at_others h full other) (relinked link link' h h (at h) (parts.others h full (head_apart h less other) (λ z. omega (arith, z, own_node.above)))
-        (λ m hm. let is = tied.member h m less hm in parts.others m (λ z. omega (arith, z, is.above)) (last_apart h m other is) (parts_apart h m other is)) (tied.linked h less))
+          (λ m hm. let is = tied.member h m less hm in parts.others m (λ z. omega (arith, z, is.above)) (last_apart h m other is) (parts_apart h m other is)) (tied.linked h less))
     ]
   ]
 

@@ -72,7 +72,12 @@ impl Kv {
 
     /// Writes the value of the key to the front of `out`, and answers its length. A key that isn't there is refused
     /// as `NoKey`.
-    pub fn get<P: Space>(&self, space: &mut P, key: &[u8], out: &mut [u8; 1024]) -> Result<usize, Refusal>
+    pub fn get<P: Space>(
+        &self,
+        space: &mut P,
+        key: &[u8],
+        out: &mut [u8; 1024],
+    ) -> Result<usize, Refusal>
         requires store { IsStore self.now.records (P.contents space.old) }
         requires some { 1 ≤ length key.now }
         requires key { length key.now ≤ 32 }

@@ -31,10 +31,12 @@ pub const VALUE_BYTES: u32 = 256;
 
 // How many bytes a slot has, and how many slots a page has.
 const SLOT_BYTES: u32 = 315;
+
 const PAGE_SLOTS: u32 = 13;
 
 // A slot has room for the greatest record, and a page for its slots.
 const _: () = prove!(VALUE_AT + VALUE_BYTES <= SLOT_BYTES);
+
 const _: () = prove!(PAGE_SLOTS * SLOT_BYTES <= PAGE_BYTES);
 
 /// What a record says to one who looks for a key.
@@ -126,7 +128,13 @@ fn front_of(next: u32, key_len: usize, value_len: usize) -> [u8; 5]
 {
     let link = (next as u16).to_be_bytes();
     let value_bytes = (value_len as u16).to_be_bytes();
-    [link[0], link[1], key_len as u8, value_bytes[0], value_bytes[1]]
+    [
+        link[0],
+        link[1],
+        key_len as u8,
+        value_bytes[0],
+        value_bytes[1],
+    ]
 }
 
 impl Kv {

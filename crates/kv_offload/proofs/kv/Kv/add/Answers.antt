@@ -6,22 +6,22 @@ use Rattle.kv_offload.proofs.StoreLemmas.{Puts, added_store, added_given, counte
 use Rattle.kv_offload.proofs.kv.Kv.add.Goals as goal
 
 pub link-next_free-requires-clause-node : goal.link-next_free-requires-clause-node
-link-next_free-requires-clause-node g c = 
+link-next_free-requires-clause-node g c =
     let home = free_home c.requires.store.sound c.args.node c.requires.free c.requires.held in
     home.below
 
 pub overflow_sub-node : goal.overflow_sub-node
-overflow_sub-node g c = 
+overflow_sub-node g c =
     let home = free_home c.requires.store.sound c.args.node c.requires.free c.requires.held in
     home.above
 
 pub fill-requires-clause-slot : goal.fill-requires-clause-slot
-fill-requires-clause-slot g c = 
+fill-requires-clause-slot g c =
     let home = free_home c.requires.store.sound c.args.node c.requires.free c.requires.held in
     omega (arith, home.above, home.below)
 
 pub set_link-requires-2-clause-to : goal.set_link-requires-2-clause-to
-set_link-requires-2-clause-to g c = 
+set_link-requires-2-clause-to g c =
     let home = free_home c.requires.store.sound c.args.node c.requires.free c.requires.held in
     let few = c.requires.store.pages.few in omega (arith, few, home.below)
 
@@ -42,7 +42,7 @@ set_count-requires-clause-count g c =
     let low = counted_below c.requires.store in omega (arith, kept, low)
 
 pub returns-clause-given : goal.returns-clause-given
-returns-clause-given g c = 
+returns-clause-given g c =
     let some = key_some c.args.key.now c.requires.some in
     let puts : Puts c.args.self.now.records (g.P.Space.contents c.args.space.now) (g.P.Space.contents c.set_count.new.space) c.args.key.now c.args.value.now =
     added_store c.args.self.now.records c.args.node c.head_of-head.result c.link-next_free.result c.link-first.result c.counted-count.result c.args.key.now c.args.value.now
@@ -55,7 +55,7 @@ returns-clause-given g c =
     added_given c.args.self.now.records c.args.node (g.P.Space.contents c.args.space.now) (g.P.Space.contents c.set_count.new.space) c.args.key.now c.args.value.now c.requires.store c.requires.free c.requires.held c.requires.absent puts
 
 pub returns-clause-store : goal.returns-clause-store
-returns-clause-store g c = 
+returns-clause-store g c =
     let some = key_some c.args.key.now c.requires.some in
     let puts : Puts c.args.self.now.records (g.P.Space.contents c.args.space.now) (g.P.Space.contents c.set_count.new.space) c.args.key.now c.args.value.now =
     added_store c.args.self.now.records c.args.node c.head_of-head.result c.link-next_free.result c.link-first.result c.counted-count.result c.args.key.now c.args.value.now

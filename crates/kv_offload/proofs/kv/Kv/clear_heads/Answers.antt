@@ -11,7 +11,7 @@ loop-head-preserved g c = record {
 }
 
 pub returns-clause-links : goal.returns-clause-links
-returns-clause-links g c = 
+returns-clause-links g c =
     count_links c.args.self.now.records _ _ c.set_count.ensures.says (λ node less. c.loop-head.invariant.links node (omega (arith, less, c.loop-head-test.false)))
 
 pub returns-clause-count : goal.returns-clause-count

@@ -12,11 +12,11 @@ loop-slot-preserved g c = record {
 }
 
 pub returns-clause-store : goal.returns-clause-store
-returns-clause-store g c = 
+returns-clause-store g c =
     let all : c.loop-slot.slot ≡ c.args.self.now.records = omega (arith, c.loop-slot-test.false, c.loop-slot.auto.slot-end) in
     free_store c.loop-slot.invariant.pages (subst (λ done. AreFree c.args.self.now.records done (g.P.Space.contents c.loop-slot.space)) all c.loop-slot.invariant.free)
 
 pub returns-clause-empty : goal.returns-clause-empty
-returns-clause-empty g c = 
+returns-clause-empty g c =
     let all : c.loop-slot.slot ≡ c.args.self.now.records = omega (arith, c.loop-slot-test.false, c.loop-slot.auto.slot-end) in
     free_pairs c.loop-slot.invariant.pages (subst (λ done. AreFree c.args.self.now.records done (g.P.Space.contents c.loop-slot.space)) all c.loop-slot.invariant.free)

@@ -10,7 +10,7 @@ pub returns-in_default-clause-given : goal.returns-in_default-clause-given
 returns-in_default-clause-given g c = absent_got c.args.self.now.records (g.P.Space.contents c.args.space.now) c.args.key.now c.in_default.ensures.absent
 
 pub returns-clause-given : goal.returns-clause-given
-returns-clause-given g c = 
+returns-clause-given g c =
     let long : length c.read_value.new.out ≡ c.in-Some.found.value_len = omega (arith, c.read_value.auto.out, c.split_at_mut-value.ensures.front_len) in
     got_given c.in-Some.ensures.found _ _ c.requires.store (key_some c.args.key.now c.requires.some) (c.read_value.ensures.contents ∙ c.in-Some.ensures.contents)
     (take_at c.read_value.new.out c.split_at_mut-value.result.1.now c.in-Some.found.value_len long
