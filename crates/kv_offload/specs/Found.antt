@@ -1,7 +1,7 @@
 -- What a search for a key tells. No public clause cites this module.
 use Rattle.std.specs.Prelude.{◌≡◌, ◌≢◌, true, ℕ, ◌+◌, ◌-◌, ◌<◌, ◌≤◌, List, [], ◌∷◌, ◌++◌}
 use Rattle.kv_offload.specs.declared.kv.Found.{Found}
-use Rattle.kv_offload.specs.declared.layout.TheConstants.{HEADS}
+use Rattle.kv_offload.specs.declared.layout.TheConstants.{HEADS, VALUE_BYTES}
 use Rattle.kv_offload.specs.Layout.{key_of, value_size, link_of, head_of}
 use Rattle.kv_offload.specs.Links.{has, behind}
 
@@ -37,6 +37,6 @@ pub record IsFound (records : ℕ) (contents key : List ℕ) (found : Found) : T
   pub next : link_of contents found.node ≡ found.next
   pub next_below : found.next < 65536
   pub value_len : found.value_len ≡ value_size contents (found.node - HEADS)
-  pub short : found.value_len ≤ 256
+  pub short : found.value_len ≤ VALUE_BYTES
   pub seen : List ℕ
   pub passed : IsPassed records (link_of contents) (head_of key) found.before seen

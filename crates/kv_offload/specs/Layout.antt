@@ -2,11 +2,12 @@
 use Rattle.std.specs.Prelude.{◌≡◌, ℕ, ◌+◌, ◌*◌, ◌-◌, ◌/◌, ◌%◌, ◌<◌, ◌==◌, List, [], ◌∷◌, ◌++◌, take, if◌then◌else◌, length, slice_index, nat_lt}
 use Rattle.std.specs.Int.{from_be_bytes, to_be_bytes, w16}
 use Rattle.cl_types.specs.Bytes.{bytes_at}
-use Rattle.kv_offload.specs.declared.layout.TheConstants.{HEADS, KEY_AT, VALUE_AT, VALUE_BYTES}
+use Rattle.cl_types.specs.declared.limits.TheConstants.{PAGE_BYTES}
+use Rattle.kv_offload.specs.declared.layout.TheConstants.{HEADS, KEY_AT, KEY_CHAINS, KEY_LEN_AT, PAGE_SLOTS, SLOT_BYTES, VALUE_AT, VALUE_BYTES, VALUE_LEN_AT}
 
--- where the slot of this number begins: a page has 13 slots of 315 bytes, from page 1 on
+-- where the slot of this number begins: each page but the first has the next slots, one behind the other
 unfoldable pub slot_place : ℕ → ℕ
-slot_place slot = 4096 * (1 + slot / 13) + 315 * (slot % 13)
+slot_place slot = PAGE_BYTES * (1 + slot / PAGE_SLOTS) + SLOT_BYTES * (slot % PAGE_SLOTS)
 
 -- where the link of a node stands: those of the heads one after the other, that of a slot at its beginning
 unfoldable pub link_place : ℕ → ℕ
@@ -30,11 +31,11 @@ count_of contents = number_at (2 * HEADS) contents
 
 -- the length of the key in a slot, or 0 in a free one
 unfoldable pub key_size : List ℕ → ℕ → ℕ
-key_size contents slot = slice_index (bytes_at (slot_place slot + 2) 1 contents) 0
+key_size contents slot = slice_index (bytes_at (slot_place slot + KEY_LEN_AT) 1 contents) 0
 
 -- the length of the value in a slot
 unfoldable pub value_size : List ℕ → ℕ → ℕ
-value_size contents slot = number_at (slot_place slot + 3) contents
+value_size contents slot = number_at (slot_place slot + VALUE_LEN_AT) contents
 
 -- the key in a slot, as long as its length says, which is a byte; it has no bytes in a free one
 unfoldable pub key_of : List ℕ → ℕ → List ℕ
@@ -95,7 +96,7 @@ with_count view count = record view { count = count }
 -- the hash of a key with these bytes behind those that have this hash
 abbrev pub hash_on : ℕ → List ℕ → ℕ
 hash_on hash [] = hash
-hash_on hash (byte ∷ bytes) = hash_on ((hash * 31 + byte) % 1024) bytes
+hash_on hash (byte ∷ bytes) = hash_on ((hash * 31 + byte) % KEY_CHAINS) bytes
 
 -- the hash of a key, below 1,024
 unfoldable pub hash_of : List ℕ → ℕ

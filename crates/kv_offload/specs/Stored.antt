@@ -3,9 +3,11 @@ use Rattle.std.specs.Prelude.{◌≡◌, ℕ, zero, suc, ◌+◌, ◌*◌, ◌<�
 use Rattle.std.specs.FinMap.Entries.{put}
 use Rattle.cl_types.specs.Config.{offload_pages}
 use Rattle.cl_types.specs.declared.config.OffloadConfig.TheVariants.{Kv}
+use Rattle.cl_types.specs.declared.limits.TheConstants.{PAGE_BYTES}
 use Rattle.cl_types.specs.declared.reply.Refusal.{Refusal}
 use Rattle.flat_model.specs.Objects.{Object, Pairs, Given, key_cmp}
 use Rattle.flat_model.specs.Objects.Object.{KvObject}
+use Rattle.kv_offload.specs.declared.layout.TheConstants.{VALUE_BYTES}
 use Rattle.kv_offload.specs.Layout.{View, view_of, home_in, key_of, value_of}
 use Rattle.kv_offload.specs.Links.{IsTied, behind}
 
@@ -29,7 +31,7 @@ object_in records contents = KvObject records (pairs_in records contents)
 
 -- the chains, sizes and count of a store of so many records fit each other
 pub record IsSound (records : ℕ) (view : View) : Type 0 where
-  pub sizes : (slot : ℕ) → slot < records → view.size slot ≤ 256
+  pub sizes : (slot : ℕ) → slot < records → view.size slot ≤ VALUE_BYTES
   -- no two records have one key
   pub apart : (slot other : ℕ) → slot < records → other < records → view.key slot ≢ []
       → view.key slot ≡ view.key other → slot ≡ other
@@ -42,7 +44,7 @@ pub record IsSound (records : ℕ) (view : View) : Type 0 where
 pub record HasPages (records : ℕ) (contents : List ℕ) : Type 0 where
   pub some : 1 ≤ records
   pub few : records ≤ 4096
-  pub pages : offload_pages (Kv records) * 4096 ≤ length contents
+  pub pages : offload_pages (Kv records) * PAGE_BYTES ≤ length contents
 
 -- the bytes are a store of so many records, as `init` and each call leave it
 pub record IsStore (records : ℕ) (contents : List ℕ) : Type 0 where

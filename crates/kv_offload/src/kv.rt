@@ -3,6 +3,7 @@
 ghost use Rattle.std.specs.Prelude.{◌≡◌, ◌≢◌, ◌+◌, ◌*◌, ◌-◌, ◌<◌, ◌≤◌, ℕ, [], ◌∷◌, ◌++◌, length, ◌==◌, if◌then◌else◌, IfNone, IfSome, IfErr, IfOk, drop};
 ghost use Rattle.std.specs.FinMap.Entries.{find};
 ghost use Rattle.flat_model.specs.Objects.{key_cmp, kv_put, kv_get, kv_delete};
+ghost use Rattle.kv_offload.specs.declared.layout.TheConstants.{KEY_BYTES, VALUE_BYTES};
 ghost use Rattle.kv_offload.specs.Found.{IsFound, IsAbsent};
 ghost use Rattle.kv_offload.specs.Layout.{key_of, head_of, link_of, count_of, next_free, value_size};
 ghost use Rattle.kv_offload.specs.Stored.{IsStore, HasPages, pairs_in, object_in, given_by, answered};
@@ -49,10 +50,12 @@ impl Kv {
     pub fn put<P: Space>(&self, space: &mut P, key: &[u8], value: &[u8]) -> Result<(), Refusal>
         requires store { IsStore self.now.records (P.contents space.old) }
         requires some { 1 ≤ length key.now }
-        requires key { length key.now ≤ 32 }
-        requires value { length value.now ≤ 256 }
+        requires key { length key.now ≤ KEY_BYTES }
+        requires value { length value.now ≤ VALUE_BYTES }
         requires honest { P.honest space.old }
-        ensures given { given_by result [] (object_in self.now.records (P.contents space.new)) ≡ kv_put self.now.records (pairs_in self.now.records (P.contents space.old)) key.now value.now }
+        ensures given { given_by result [] (object_in self.now.records (P.contents space.new))
+            ≡ kv_put self.now.records (pairs_in self.now.records (P.contents space.old)) key.now
+            value.now }
         ensures refused { IfErr result (λ _. P.contents space.new ≡ P.contents space.old) }
         ensures store { IsStore self.now.records (P.contents space.new) }
         ensures rest { P.rest space.new ≡ P.rest space.old }
@@ -80,10 +83,13 @@ impl Kv {
     ) -> Result<usize, Refusal>
         requires store { IsStore self.now.records (P.contents space.old) }
         requires some { 1 ≤ length key.now }
-        requires key { length key.now ≤ 32 }
+        requires key { length key.now ≤ KEY_BYTES }
         requires honest { P.honest space.old }
-        ensures given { given_by result (answered result out.new) (object_in self.now.records (P.contents space.new)) ≡ kv_get self.now.records (pairs_in self.now.records (P.contents space.old)) (find key_cmp key.now (pairs_in self.now.records (P.contents space.old))) }
-        ensures size { IfOk result (λ size. size ≤ 256) }
+        ensures given { let pairs = pairs_in self.now.records (P.contents space.old) in
+            given_by result (answered result out.new)
+            (object_in self.now.records (P.contents space.new))
+            ≡ kv_get self.now.records pairs (find key_cmp key.now pairs) }
+        ensures size { IfOk result (λ size. size ≤ VALUE_BYTES) }
         ensures behind { IfOk result (λ size. drop size out.new ≡ drop size out.old) }
         ensures refused { IfErr result (λ _. out.new ≡ out.old) }
         ensures contents { P.contents space.new ≡ P.contents space.old }
@@ -102,9 +108,10 @@ impl Kv {
     pub fn delete<P: Space>(&self, space: &mut P, key: &[u8]) -> Result<(), Refusal>
         requires store { IsStore self.now.records (P.contents space.old) }
         requires some { 1 ≤ length key.now }
-        requires key { length key.now ≤ 32 }
+        requires key { length key.now ≤ KEY_BYTES }
         requires honest { P.honest space.old }
-        ensures given { given_by result [] (object_in self.now.records (P.contents space.new)) ≡ kv_delete self.now.records (pairs_in self.now.records (P.contents space.old)) key.now }
+        ensures given { given_by result [] (object_in self.now.records (P.contents space.new))
+            ≡ kv_delete self.now.records (pairs_in self.now.records (P.contents space.old)) key.now }
         ensures refused { IfErr result (λ _. P.contents space.new ≡ P.contents space.old) }
         ensures store { IsStore self.now.records (P.contents space.new) }
         ensures rest { P.rest space.new ≡ P.rest space.old }
@@ -146,7 +153,8 @@ impl Kv {
     /// Makes all slots free, each with the next one behind it.
     fn free_slots<P: Space>(&self, space: &mut P)
         requires pages { HasPages self.now.records (P.contents space.old) }
-        requires links { (node : ℕ) → node < HEADS → link_of (P.contents space.old) node ≡ (if node == 0 then HEADS else 0) }
+        requires links { (node : ℕ) → node < HEADS
+            → link_of (P.contents space.old) node ≡ (if node == 0 then HEADS else 0) }
         requires count { count_of (P.contents space.old) ≡ 0 }
         requires honest { P.honest space.old }
         ensures store { IsStore self.now.records (P.contents space.new) }
@@ -163,7 +171,7 @@ impl Kv {
     fn find<P: Space>(&self, space: &mut P, key: &[u8]) -> Option<Found>
         requires store { IsStore self.now.records (P.contents space.old) }
         requires some { 1 ≤ length key.now }
-        requires key { length key.now ≤ 32 }
+        requires key { length key.now ≤ KEY_BYTES }
         requires honest { P.honest space.old }
         ensures absent { IfNone result (IsAbsent self.now.records (P.contents space.old) key.now) }
         ensures found { IfSome result (λ found. IsFound self.now.records (P.contents space.old) key.now found) }
@@ -196,10 +204,12 @@ impl Kv {
         requires free { node ≡ link_of (P.contents space.old) 0 }
         requires held { node ≢ 0 }
         requires some { 1 ≤ length key.now }
-        requires key { length key.now ≤ 32 }
-        requires value { length value.now ≤ 256 }
+        requires key { length key.now ≤ KEY_BYTES }
+        requires value { length value.now ≤ VALUE_BYTES }
         requires honest { P.honest space.old }
-        ensures given { Ok ([], object_in self.now.records (P.contents space.new)) ≡ kv_put self.now.records (pairs_in self.now.records (P.contents space.old)) key.now value.now }
+        ensures given { Ok ([], object_in self.now.records (P.contents space.new))
+            ≡ kv_put self.now.records (pairs_in self.now.records (P.contents space.old)) key.now
+            value.now }
         ensures store { IsStore self.now.records (P.contents space.new) }
         ensures rest { P.rest space.new ≡ P.rest space.old }
         ensures honest { P.honest space.new }
@@ -220,7 +230,8 @@ impl Kv {
         requires some { 1 ≤ length key.now }
         requires found { IsFound self.now.records (P.contents space.old) key.now found }
         requires honest { P.honest space.old }
-        ensures given { Ok ([], object_in self.now.records (P.contents space.new)) ≡ kv_delete self.now.records (pairs_in self.now.records (P.contents space.old)) key.now }
+        ensures given { Ok ([], object_in self.now.records (P.contents space.new))
+            ≡ kv_delete self.now.records (pairs_in self.now.records (P.contents space.old)) key.now }
         ensures store { IsStore self.now.records (P.contents space.new) }
         ensures rest { P.rest space.new ≡ P.rest space.old }
         ensures honest { P.honest space.new }

@@ -10,12 +10,27 @@ use crate::kv::Kv;
 use cl_types::limits::PAGE_BYTES;
 use cl_types::space::Space;
 
-/// How many chains there are: that of the free slots, which is the first, and one for each hash of a key. A node is a
-/// chain's head, by its number, or a slot, by its number behind the heads.
-pub const HEADS: u32 = 1025;
+/// How many chains of records there are, one for each hash of a key.
+pub const KEY_CHAINS: u32 = 1024;
 
-/// The head of the chain of the free slots. No link leads to it, so as a link it says that a chain ends.
+/// How many heads of chains there are: that of the free slots, and one for each chain of records. A node is a head, by
+/// its number, or a slot, by its number behind the heads.
+pub const HEADS: u32 = 1 + KEY_CHAINS;
+
+/// The head of the free slots. No link leads to it, so as a link it says that a chain ends.
 pub const FREE: u32 = 0;
+
+/// How many bytes a slot has.
+pub const SLOT_BYTES: u32 = 315;
+
+/// How many slots a page has.
+pub const PAGE_SLOTS: u32 = 13;
+
+/// Where the length of the key stands in a slot.
+pub const KEY_LEN_AT: u32 = 2;
+
+/// Where the length of the value stands in a slot.
+pub const VALUE_LEN_AT: u32 = 3;
 
 /// Where the key begins in a slot.
 pub const KEY_AT: u32 = 5;
@@ -29,15 +44,14 @@ pub const VALUE_AT: u32 = 37;
 /// The greatest length of a value.
 pub const VALUE_BYTES: u32 = 256;
 
-// How many bytes a slot has, and how many slots a page has.
-const SLOT_BYTES: u32 = 315;
+// A slot has room for the greatest record, a page for its slots, and the first page for the heads and the count.
+const _: () = prove!(KEY_AT + KEY_BYTES <= VALUE_AT);
 
-const PAGE_SLOTS: u32 = 13;
-
-// A slot has room for the greatest record, and a page for its slots.
 const _: () = prove!(VALUE_AT + VALUE_BYTES <= SLOT_BYTES);
 
 const _: () = prove!(PAGE_SLOTS * SLOT_BYTES <= PAGE_BYTES);
+
+const _: () = prove!(2 * HEADS + 2 <= PAGE_BYTES);
 
 /// What a record says to one who looks for a key.
 #[derive(Drop)]
@@ -59,7 +73,7 @@ pub fn head_of(key: &[u8]) -> u32
 {
     let mut hash = 0;
     for byte in key {
-        hash = (hash * 31 + *byte as u32) % 1024;
+        hash = (hash * 31 + *byte as u32) % KEY_CHAINS;
     }
     1 + hash
 }
@@ -112,11 +126,13 @@ fn number_in(bytes: &[u8], at: usize) -> u32
 fn begins_key(front: &[u8], key: &[u8]) -> bool
     requires front { length front.now ≡ VALUE_AT }
     requires key { length key.now ≤ KEY_BYTES }
-    ensures byte { slice_index front.now 2 < 256 }
-    ensures test { IsTrue result ↔ ((slice_index front.now 2 ≡ length key.now) × (bytes_at KEY_AT (length key.now) front.now ≡ key.now)) }
+    ensures byte { slice_index front.now KEY_LEN_AT < 256 }
+    ensures test { IsTrue result
+        ↔ ((slice_index front.now KEY_LEN_AT ≡ length key.now)
+        × (bytes_at KEY_AT (length key.now) front.now ≡ key.now)) }
 {
     let key_at = KEY_AT as usize;
-    front[2] as usize == key.len() && &front[key_at..key_at + key.len()] == key
+    front[KEY_LEN_AT as usize] as usize == key.len() && &front[key_at..key_at + key.len()] == key
 }
 
 /// The front of a slot: its link and its two lengths.
@@ -183,7 +199,7 @@ impl Kv {
         Visit {
             has_key: begins_key(&front, key),
             next: number_in(&front, 0),
-            value_len: number_in(&front, 3) as usize,
+            value_len: number_in(&front, VALUE_LEN_AT as usize) as usize,
         }
     }
 
@@ -208,7 +224,8 @@ impl Kv {
         requires node { node < HEADS + self.now.records }
         requires to { to < 65536 }
         requires honest { P.honest space.old }
-        ensures says { (view : View) → Says self.now.records (P.contents space.old) view → Says self.now.records (P.contents space.new) (with_link view node to) }
+        ensures says { (view : View) → Says self.now.records (P.contents space.old) view
+            → Says self.now.records (P.contents space.new) (with_link view node to) }
         ensures pages { HasPages self.now.records (P.contents space.new) }
         ensures rest { P.rest space.new ≡ P.rest space.old }
         ensures honest { P.honest space.new }
@@ -221,7 +238,8 @@ impl Kv {
         requires pages { HasPages self.now.records (P.contents space.old) }
         requires count { count < 65536 }
         requires honest { P.honest space.old }
-        ensures says { (view : View) → Says self.now.records (P.contents space.old) view → Says self.now.records (P.contents space.new) (with_count view count) }
+        ensures says { (view : View) → Says self.now.records (P.contents space.old) view
+            → Says self.now.records (P.contents space.new) (with_count view count) }
         ensures pages { HasPages self.now.records (P.contents space.new) }
         ensures rest { P.rest space.new ≡ P.rest space.old }
         ensures honest { P.honest space.new }
@@ -235,7 +253,8 @@ impl Kv {
         requires slot { slot < self.now.records }
         requires next { next < 65536 }
         requires honest { P.honest space.old }
-        ensures says { (view : View) → Says self.now.records (P.contents space.old) view → Says self.now.records (P.contents space.new) (with_slot view slot next [] []) }
+        ensures says { (view : View) → Says self.now.records (P.contents space.old) view
+            → Says self.now.records (P.contents space.new) (with_slot view slot next [] []) }
         ensures pages { HasPages self.now.records (P.contents space.new) }
         ensures rest { P.rest space.new ≡ P.rest space.old }
         ensures honest { P.honest space.new }
@@ -251,7 +270,8 @@ impl Kv {
         requires key { length key.now ≤ KEY_BYTES }
         requires value { length value.now ≤ VALUE_BYTES }
         requires honest { P.honest space.old }
-        ensures says { (view : View) → Says self.now.records (P.contents space.old) view → Says self.now.records (P.contents space.new) (with_slot view slot next key.now value.now) }
+        ensures says { (view : View) → Says self.now.records (P.contents space.old) view
+            → Says self.now.records (P.contents space.new) (with_slot view slot next key.now value.now) }
         ensures pages { HasPages self.now.records (P.contents space.new) }
         ensures rest { P.rest space.new ≡ P.rest space.old }
         ensures honest { P.honest space.new }
