@@ -1,5 +1,5 @@
 -- The offloads of a host, one by one.
-use Rattle.std.proofs.Common.{◌≡◌, ℕ, zero, suc, Bool, true, false, List, [], ◌∷◌, ◌++◌, Option, Some, None, slice_get, refl, sym, ap, subst, ◌∙◌, if◌then◌else◌, IfSome}
+use Rattle.std.proofs.Common.{◌≡◌, ℕ, zero, suc, true, false, List, [], ◌∷◌, ◌++◌, Option, Some, None, slice_get, refl, sym, ap, subst, ◌∙◌, if◌then◌else◌}
 use Rattle.cl_types.specs.Config.{Judged, first_bad, judged_offload, judged_offloads, offload_pages}
 use Rattle.cl_types.specs.declared.config.OffloadConfig.{OffloadConfig}
 use Rattle.flat_model.specs.Opening.{pages_at}
@@ -24,12 +24,3 @@ in_range_at (first ∷ offloads) (suc k) offload there none =
 pub pages_there : (offloads : List OffloadConfig) (k : ℕ) (offload : OffloadConfig) → slice_get offloads k ≡ Some offload → offload_pages offload ≡ pages_at offloads k
 pages_there offloads k offload there =
     sym (ap (λ (found : Option OffloadConfig). elim found [ None ↦ 0 | Some offload ↦ offload_pages offload ]) there)
-
--- what holds of the offload that stands there, said of the number, and back
-pub at_number : (P : OffloadConfig → Type 0) (offloads : List OffloadConfig) (k : ℕ) (offload : OffloadConfig)
-    → slice_get offloads k ≡ Some offload → P offload → IfSome (slice_get offloads k) P
-at_number P offloads k offload there holds = subst (λ (found : Option OffloadConfig). IfSome found P) (sym there) holds
-
-pub of_number : (P : OffloadConfig → Type 0) (offloads : List OffloadConfig) (k : ℕ) (offload : OffloadConfig)
-    → slice_get offloads k ≡ Some offload → IfSome (slice_get offloads k) P → P offload
-of_number P offloads k offload there holds = subst (λ (found : Option OffloadConfig). IfSome found P) there holds

@@ -7,7 +7,7 @@ use Rattle.flat_model.specs.Objects.{Given, Object, object_step}
 use Rattle.flat_model.specs.State.{FlatState}
 use Rattle.flat_model.specs.Step.{Outcome, given, offload, on_object}
 use Rattle.kv_offload.specs.Stored.{answered, given_by}
-use Rattle.offload_host.specs.Held.{Steps, object_of}
+use Rattle.offload_host.specs.Held.{TakesStep, object_of}
 use Rattle.offload_host.specs.Laws.{CallsAreOffloads, replied, with_object}
 
 -- an item that stands is put there again

@@ -25,6 +25,6 @@ abbrev pub HoldsEmpty : OffloadConfig → List ℕ → Type 0
 HoldsEmpty offload contents = object_of offload contents ≡ empty_object offload
 
 -- an operation took the object of the old bytes to that of the new ones, with this answer in front of out, or refused it
-abbrev pub Steps : OffloadConfig → List ℕ → ℕ → List ℕ → Result ℕ Refusal → List ℕ → List ℕ → Type 0
-Steps offload old op bytes result out new =
+abbrev pub TakesStep : OffloadConfig → List ℕ → ℕ → List ℕ → Result ℕ Refusal → List ℕ → List ℕ → Type 0
+TakesStep offload old op bytes result out new =
     given_by result (answered result out) (object_of offload new) ≡ object_step (object_of offload old) op bytes

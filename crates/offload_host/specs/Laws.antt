@@ -6,7 +6,7 @@ use Rattle.cl_types.specs.declared.reply.Reply.{Reply}
 use Rattle.cl_types.specs.declared.reply.Reply.TheVariants.{Refused, Got}
 use Rattle.flat_model.specs.State.{FlatState}
 use Rattle.flat_model.specs.Step.{offload}
-use Rattle.offload_host.specs.Held.{Steps, object_of}
+use Rattle.offload_host.specs.Held.{TakesStep, object_of}
 
 -- the reply to an Offload of which at most `most` bytes are answered, by what a call gave and what it left to answer
 abbrev pub replied : ℕ → Result ℕ Refusal → List ℕ → Reply
@@ -22,5 +22,5 @@ abbrev pub CallsAreOffloads : Type 0
 CallsAreOffloads =
     (s : FlatState) (number op most : ℕ) (bytes : List ℕ) (offloaded : OffloadConfig) (old new : List ℕ) (result : Result ℕ Refusal) (out : List ℕ)
     → slice_get s.objects number ≡ Some (object_of offloaded old)
-    → Steps offloaded old op bytes result out new → IfErr result (λ _. new ≡ old)
+    → TakesStep offloaded old op bytes result out new → IfErr result (λ _. new ≡ old)
     → offload s number op most bytes ≡ record { reply = replied most result out; state = with_object s number offloaded new }

@@ -3,7 +3,7 @@
 ghost use Rattle.std.specs.Prelude.{◌≡◌, ◌*◌, ◌%◌, ◌<◌, ◌≤◌, IfErr, IfOk, IfSome, None, Some, length, slice_get};
 ghost use Rattle.cl_types.specs.Config.{first_bad, judged_offload, offload_pages};
 ghost use Rattle.flat_model.specs.Opening.{pages_at};
-ghost use Rattle.offload_host.specs.Held.{AreOffloads, HoldsEmpty, HoldsObject, Steps};
+ghost use Rattle.offload_host.specs.Held.{AreOffloads, HoldsEmpty, HoldsObject, TakesStep};
 
 use crate::store::step;
 use cl_types::config::{OffloadConfig, OffloadList, pages_of};
@@ -59,7 +59,7 @@ fn step_object<P: Space>(
 ) -> Result<usize, Refusal>
     requires object { HoldsObject offload (P.contents space.old) }
     requires honest { P.honest space.old }
-    ensures step { Steps offload (P.contents space.old) op bytes.now result out.new (P.contents space.new) }
+    ensures step { TakesStep offload (P.contents space.old) op bytes.now result out.new (P.contents space.new) }
     ensures within { IfOk result (λ len. len ≤ 1024) }
     ensures short { op % 2 ≡ 1 → IfOk result (λ len. len ≤ 16) }
     ensures refused { IfErr result (λ _. P.contents space.new ≡ P.contents space.old) }
@@ -130,7 +130,7 @@ impl Host {
         requires object { IfSome (slice_get self.old no) (λ offload. HoldsObject offload (P.contents space.old)) }
         requires honest { P.honest space.old }
         ensures step { IfSome (slice_get self.old no) (λ offload.
-            Steps offload (P.contents space.old) op bytes.now result out.new (P.contents space.new)) }
+            TakesStep offload (P.contents space.old) op bytes.now result out.new (P.contents space.new)) }
         ensures within { IfOk result (λ len. len ≤ 1024) }
         ensures short { op % 2 ≡ 1 → IfOk result (λ len. len ≤ 16) }
         ensures refused { IfErr result (λ _. P.contents space.new ≡ P.contents space.old) }
