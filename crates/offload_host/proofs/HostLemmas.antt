@@ -1,5 +1,5 @@
 -- The offloads of a host, one by one.
-use Rattle.std.proofs.Common.{◌≡◌, ℕ, zero, suc, true, false, List, [], ◌∷◌, ◌++◌, Option, Some, None, slice_get, refl, sym, ap, subst, ◌∙◌, if◌then◌else◌}
+use Rattle.std.proofs.Common.{◌≡◌, ℕ, zero, suc, true, false, List, [], ◌∷◌, ◌++◌, Option, Some, None, slice_get, refl, sym, ap, subst}
 use Rattle.cl_types.specs.Config.{Judged, first_bad, judged_offload, judged_offloads, offload_pages}
 use Rattle.cl_types.specs.declared.config.OffloadConfig.{OffloadConfig}
 use Rattle.flat_model.specs.Opening.{pages_at}

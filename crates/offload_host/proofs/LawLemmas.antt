@@ -1,13 +1,13 @@
 -- A call of a host, and the Offload of the flat machine.
-use Rattle.std.proofs.Common.{◌≡◌, ℕ, zero, suc, List, [], ◌∷◌, take, Some, Result, Ok, Err, IfErr, slice_get, slice_set, refl, sym, ap, ◌∙◌}
+use Rattle.std.proofs.Common.{◌≡◌, ℕ, zero, suc, List, [], ◌∷◌, Some, Result, Ok, Err, IfErr, slice_get, slice_set, refl, sym, ap, ◌∙◌}
 use Rattle.cl_types.specs.declared.config.OffloadConfig.{OffloadConfig}
 use Rattle.cl_types.specs.declared.reply.Refusal.{Refusal}
-use Rattle.cl_types.specs.declared.reply.Reply.TheVariants.{Refused, Got}
-use Rattle.flat_model.specs.Objects.{Given, Object, object_step}
+use Rattle.cl_types.specs.declared.reply.Reply.TheVariants.{Refused}
+use Rattle.flat_model.specs.Objects.{Object}
 use Rattle.flat_model.specs.State.{FlatState}
-use Rattle.flat_model.specs.Step.{Outcome, given, offload, on_object}
+use Rattle.flat_model.specs.Step.{given, on_object}
 use Rattle.kv_offload.specs.Stored.{answered, given_by}
-use Rattle.offload_host.specs.Held.{TakesStep, object_of}
+use Rattle.offload_host.specs.Held.{object_of}
 use Rattle.offload_host.specs.Laws.{CallsAreOffloads, replied, with_object}
 
 -- an item that stands is put there again

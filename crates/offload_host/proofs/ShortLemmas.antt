@@ -1,5 +1,5 @@
 -- The answers of operations that change an object are short.
-use Rattle.std.proofs.Common.{◌≡◌, ◌≤◌, ◌<◌, ◌==◌, ◌%◌, ◌&&◌, not, ℕ, Bool, true, false, List, [], length, take, Result, Ok, Err, IfOk, is_some, leb, if◌then◌else◌, refl, sym, ap, subst, ◌∙◌, arith}
+use Rattle.std.proofs.Common.{◌≡◌, ◌≤◌, ◌==◌, ◌%◌, ◌&&◌, not, ℕ, Bool, true, false, List, [], length, take, Result, Ok, Err, IfOk, is_some, leb, if◌then◌else◌, refl, sym, ap, subst, ◌∙◌, arith}
 use Rattle.std.proofs.lemmas.Bool.{eqb-true}
 use Rattle.std.proofs.lemmas.List.{length-take-le}
 use Rattle.std.specs.FinMap.Entries.{find, put, where_key}

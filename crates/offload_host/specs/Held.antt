@@ -1,5 +1,5 @@
 -- What the bytes of an offload's space hold, and what a call tells of a step of it.
-use Rattle.std.specs.Prelude.{ℕ, ◌≡◌, ◌≤◌, List, length, None, Result, IfSome, slice_get}
+use Rattle.std.specs.Prelude.{ℕ, ◌≡◌, ◌≤◌, List, length, None, Result}
 use Rattle.cl_types.specs.Config.{first_bad, judged_offloads}
 use Rattle.cl_types.specs.declared.config.OffloadConfig.{OffloadConfig}
 use Rattle.cl_types.specs.declared.config.OffloadConfig.TheVariants.{Kv}
@@ -24,7 +24,9 @@ HoldsObject (Kv records) contents = IsStore records contents
 abbrev pub HoldsEmpty : OffloadConfig → List ℕ → Type 0
 HoldsEmpty offload contents = object_of offload contents ≡ empty_object offload
 
--- an operation took the object of the old bytes to that of the new ones, with this answer in front of out, or refused it
-abbrev pub TakesStep : OffloadConfig → List ℕ → ℕ → List ℕ → Result ℕ Refusal → List ℕ → List ℕ → Type 0
+-- an operation takes the object of the old bytes to that of the new, with its answer in front of out, or is refused
+abbrev pub TakesStep :
+    OffloadConfig → List ℕ → ℕ → List ℕ → Result ℕ Refusal → List ℕ → List ℕ → Type 0
 TakesStep offload old op bytes result out new =
-    given_by result (answered result out) (object_of offload new) ≡ object_step (object_of offload old) op bytes
+    given_by result (answered result out) (object_of offload new)
+    ≡ object_step (object_of offload old) op bytes

@@ -15,12 +15,15 @@ replied most (Err refusal) out = Refused refusal
 
 -- the state in which these bytes hold the object of an offload
 abbrev pub with_object : FlatState → ℕ → OffloadConfig → List ℕ → FlatState
-with_object s number offload contents = record s { objects = slice_set s.objects number (object_of offload contents) }
+with_object s number offload contents =
+    record s { objects = slice_set s.objects number (object_of offload contents) }
 
 -- where the machine's object is the one that a space held, a call on that space is the machine's Offload
 abbrev pub CallsAreOffloads : Type 0
 CallsAreOffloads =
-    (s : FlatState) (number op most : ℕ) (bytes : List ℕ) (offloaded : OffloadConfig) (old new : List ℕ) (result : Result ℕ Refusal) (out : List ℕ)
+    (s : FlatState) (number op most : ℕ) (bytes : List ℕ) (offloaded : OffloadConfig)
+    (old new : List ℕ) (result : Result ℕ Refusal) (out : List ℕ)
     → slice_get s.objects number ≡ Some (object_of offloaded old)
     → TakesStep offloaded old op bytes result out new → IfErr result (λ _. new ≡ old)
-    → offload s number op most bytes ≡ record { reply = replied most result out; state = with_object s number offloaded new }
+    → offload s number op most bytes
+    ≡ record { reply = replied most result out; state = with_object s number offloaded new }

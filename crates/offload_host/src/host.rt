@@ -59,7 +59,8 @@ fn step_object<P: Space>(
 ) -> Result<usize, Refusal>
     requires object { HoldsObject offload (P.contents space.old) }
     requires honest { P.honest space.old }
-    ensures step { TakesStep offload (P.contents space.old) op bytes.now result out.new (P.contents space.new) }
+    ensures step { TakesStep offload (P.contents space.old) op bytes.now
+        result out.new (P.contents space.new) }
     ensures within { IfOk result (λ len. len ≤ 1024) }
     ensures short { op % 2 ≡ 1 → IfOk result (λ len. len ≤ 16) }
     ensures refused { IfErr result (λ _. P.contents space.new ≡ P.contents space.old) }
@@ -108,8 +109,10 @@ impl Host {
         requires exists { no < length self.now }
         requires pages { pages_at self.now no * 4096 ≤ length (P.contents space.old) }
         requires honest { P.honest space.old }
-        ensures object { IfSome (slice_get self.now no) (λ offload. HoldsObject offload (P.contents space.new)) }
-        ensures empty { IfSome (slice_get self.now no) (λ offload. HoldsEmpty offload (P.contents space.new)) }
+        ensures object { IfSome (slice_get self.now no) (λ offload.
+            HoldsObject offload (P.contents space.new)) }
+        ensures empty { IfSome (slice_get self.now no) (λ offload.
+            HoldsEmpty offload (P.contents space.new)) }
         ensures rest { P.rest space.new ≡ P.rest space.old }
         ensures honest { P.honest space.new }
     {
@@ -127,14 +130,17 @@ impl Host {
         out: &mut [u8; 1024],
     ) -> Result<usize, Refusal>
         requires exists { no < length self.old }
-        requires object { IfSome (slice_get self.old no) (λ offload. HoldsObject offload (P.contents space.old)) }
+        requires object { IfSome (slice_get self.old no) (λ offload.
+            HoldsObject offload (P.contents space.old)) }
         requires honest { P.honest space.old }
         ensures step { IfSome (slice_get self.old no) (λ offload.
-            TakesStep offload (P.contents space.old) op bytes.now result out.new (P.contents space.new)) }
+            TakesStep offload (P.contents space.old) op bytes.now
+            result out.new (P.contents space.new)) }
         ensures within { IfOk result (λ len. len ≤ 1024) }
         ensures short { op % 2 ≡ 1 → IfOk result (λ len. len ≤ 16) }
         ensures refused { IfErr result (λ _. P.contents space.new ≡ P.contents space.old) }
-        ensures object { IfSome (slice_get self.old no) (λ offload. HoldsObject offload (P.contents space.new)) }
+        ensures object { IfSome (slice_get self.old no) (λ offload.
+            HoldsObject offload (P.contents space.new)) }
         ensures host { self.new ≡ self.old }
         ensures rest { P.rest space.new ≡ P.rest space.old }
         ensures honest { P.honest space.new }

@@ -1,6 +1,6 @@
 //! What the number and the bytes of an operation ask of a key-value store.
 
-ghost use Rattle.std.specs.Prelude.{◌≡◌, ◌+◌, ◌≤◌, ◌==◌, ◌&&◌, ℕ, IfSome, IsTrue, drop, length, take};
+ghost use Rattle.std.specs.Prelude.{◌≡◌, ◌≤◌, ◌==◌, ◌&&◌, ℕ, IfSome, IsTrue, length};
 ghost use Rattle.flat_model.specs.Objects.{Pairs, is_keyed, key_in, kv_step, value_in};
 ghost use Rattle.offload_host.specs.Operations.{HasLengths, given_if};
 

@@ -31,7 +31,8 @@ fn operate<P: Space>(
     requires store { IsStore kv.records (P.contents space.old) }
     requires lengths { HasLengths operation }
     requires honest { P.honest space.old }
-    ensures given { given_by result (answered result out.new) (object_in kv.records (P.contents space.new)) ≡
+    ensures given { given_by result (answered result out.new)
+        (object_in kv.records (P.contents space.new)) ≡
         given_of operation.entry kv.records (pairs_in kv.records (P.contents space.old)) }
     ensures within { IfOk result (λ len. len ≤ 1024) }
     ensures refused { IfErr result (λ _. P.contents space.new ≡ P.contents space.old) }
@@ -66,7 +67,8 @@ pub fn step<P: Space>(
 ) -> Result<usize, Refusal>
     requires store { IsStore kv.records (P.contents space.old) }
     requires honest { P.honest space.old }
-    ensures given { given_by result (answered result out.new) (object_in kv.records (P.contents space.new)) ≡
+    ensures given { given_by result (answered result out.new)
+        (object_in kv.records (P.contents space.new)) ≡
         kv_step kv.records (pairs_in kv.records (P.contents space.old)) op bytes.now }
     ensures within { IfOk result (λ len. len ≤ 1024) }
     ensures short { op % 2 ≡ 1 → IfOk result (λ len. len ≤ 16) }
