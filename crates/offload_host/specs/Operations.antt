@@ -14,7 +14,7 @@ given_of (Get key) records pairs = kv_get records pairs (find key_cmp key.now pa
 given_of (Delete key) records pairs = kv_delete records pairs key.now
 given_of Count records pairs = Ok (to_be_bytes w32 (length pairs), KvObject records pairs)
 
--- the same where there may be no operation, which is refused
+-- what an operation gives, where one was read; where none was, it is refused as bad
 abbrev pub given_if : Option Operation → ℕ → Pairs → Given
 given_if None records pairs = Err BadOp
 given_if (Some operation) records pairs = given_of operation records pairs
