@@ -1,4 +1,4 @@
--- The words of calls, and what stands behind each. No public clause cites this module.
+-- The words of calls, and what stands behind each.
 use Rattle.std.specs.Prelude.{List, [], ◌∷◌, Option, Result, codes}
 use Rattle.std.specs.Borrow.{Bor}
 use Rattle.cl_types.specs.declared.schedule.CallText.{CallText}

@@ -1,4 +1,4 @@
--- The lines of a schedule by their first words, and what they say. No public clause cites this module.
+-- The lines of a schedule by their first words, and what they say.
 use Rattle.std.specs.Prelude.{List, [], ◌∷◌, Option, Result, Ok, Err, codes}
 use Rattle.std.specs.Borrow.{Bor}
 use Rattle.cl_types.specs.declared.numbers.ClientNo.{ClientNo}

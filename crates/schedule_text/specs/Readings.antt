@@ -1,4 +1,4 @@
--- What was read of a schedule so far, and what a line adds. No public clause cites this module.
+-- What a line of a schedule says.
 use Rattle.std.specs.Prelude.{◌≡◌, Some, None, Result, Ok, Err}
 use Rattle.cl_types.specs.declared.schedule.What.{What}
 use Rattle.flat_model.specs.Text.{Text, first_word, words_in}
@@ -7,11 +7,6 @@ use Rattle.flat_model.specs.Grammar.{Fault, place_faults, read_more, said_by_wor
 use Rattle.flat_model.specs.Grammar as grammar
 use Rattle.schedule_text.specs.declared.fault.ScheduleFault.{ScheduleFault}
 use Rattle.schedule_text.specs.declared.fault.ScheduleFault.TheVariants.{Line, TooLong, NoMemory}
-use Rattle.schedule_text.specs.declared.reading.Reading.{Reading}
-
--- what was read, as the grammar has it
-abbrev pub reading_of : Reading → grammar.Reading
-reading_of r = record { header = r.header; node = r.node; clients = r.clients; events = r.events; begun = r.begun }
 
 -- what a line says, where nothing is wrong with that
 abbrev pub sound : grammar.Reading → Result grammar.Said What → Result grammar.Said What

@@ -1,4 +1,4 @@
--- What a call tells of a line, where want of memory may come instead. No public clause cites this module.
+-- What a call tells of a line, where want of memory may come instead.
 use Rattle.std.specs.Prelude.{◌≡◌, Result, Ok, Err}
 use Rattle.cl_types.specs.declared.schedule.What.{What}
 use Rattle.flat_model.specs.Words.{Value}

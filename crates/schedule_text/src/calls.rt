@@ -23,8 +23,8 @@ const LAST_U32: u64 = 4_294_967_295;
 const MOST_LEN: u64 = 70_000;
 
 /// The word of a call.
-#[derive(Clone, Copy)]
-pub(crate) enum CallWord {
+#[derive(Clone, Copy, Debug, PartialEq, Eq)]
+pub enum CallWord {
     Alloc,
     Free,
     Read,

@@ -5,6 +5,9 @@
 //! Where the bytes or their lines are too many, that alone is told, and want of memory may come in
 //! place of the rest.
 //!
+//! `read` reads a schedule whole. Whoever has to judge each line before the next one is read takes the
+//! lines one by one, with `next_line` and `Reading`, and may ask for the kind of a line by its words.
+//!
 //! Whether a node opens with the numbers of a schedule is judged by others. That a call goes once
 //! over its bytes, and before that once to count the lines, can be seen in the code, and no clause
 //! says it.
@@ -14,6 +17,7 @@ mod arguments;
 mod calls;
 mod fault;
 mod garbage;
+mod kinds;
 mod lines;
 mod numbers;
 mod parts;
@@ -25,6 +29,10 @@ mod script;
 mod tests;
 mod written;
 
+pub use calls::CallWord;
 pub use fault::{MOST_BYTES, MOST_LINES, ScheduleFault};
+pub use kinds::{Kind, kind_of};
+pub use lines::{is_passed_over, next_line, too_long};
+pub use reading::Reading;
 pub use schedule::read;
 pub use script::read_script;

@@ -13,7 +13,7 @@ use cl_types::schedule::What;
 
 /// The first line, and what stands behind its end.
 #[tactic(auto, using(crate::proofs::LineLemmas::lines_cut))]
-pub(crate) fn next_line(bytes: &[u8]) -> (&[u8], &[u8])
+pub fn next_line(bytes: &[u8]) -> (&[u8], &[u8])
     requires { 0 < length bytes.now }
     ensures lines { lines_in bytes.now ≡ result.0.now ∷ lines_in result.1.now }
     ensures shorter { length result.1.now < length bytes.now }
@@ -40,7 +40,7 @@ fn has_too_many_lines(bytes: &[u8]) -> bool
 }
 
 /// Whether the bytes, or else their lines, are too many.
-pub(crate) fn too_long(bytes: &[u8]) -> Option<ScheduleFault>
+pub fn too_long(bytes: &[u8]) -> Option<ScheduleFault>
     ensures { result ≡ too_long_of bytes.now }
 {
     if bytes.len() > MOST_BYTES {
@@ -61,7 +61,7 @@ pub(crate) fn too_long(bytes: &[u8]) -> Option<ScheduleFault>
 }
 
 /// Whether the line is empty or a comment.
-pub(crate) fn is_passed_over(line: &[u8]) -> bool
+pub fn is_passed_over(line: &[u8]) -> bool
     ensures { result ≡ is_skipped line.now }
 {
     match line {

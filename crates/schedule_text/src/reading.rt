@@ -1,11 +1,12 @@
-//! What was read of a schedule so far.
+//! What was read of a schedule so far, line by line.
 
-ghost use Rattle.std.specs.Prelude.{◌≡◌, [], ◌∷◌, ◌++◌, IfOk, OnOk, drop};
+ghost use Rattle.std.specs.Prelude.{◌≡◌, [], ◌∷◌, ◌++◌, IfOk, OnOk, drop, option_map};
 ghost use Rattle.flat_model.specs.Faults.{first_fault};
+ghost use Rattle.flat_model.specs.Text.{first_word, words_in};
 ghost use Rattle.flat_model.specs.Grammar.{at_end, event_faults, is_given, line_read, nothing_read, place_faults, read_more, said_faults, with_offload};
 ghost use Rattle.flat_model.specs.Grammar as grammar;
 ghost use Rattle.schedule_text.specs.Lines.{said_of};
-ghost use Rattle.schedule_text.specs.Readings.{Gives, line_said, reading_of};
+ghost use Rattle.schedule_text.specs.Readings.{Gives, line_said};
 ghost use Rattle.schedule_text.specs.Telling.{LeavesOf, TellsBy};
 
 use crate::fault::{ScheduleFault, Stop};
@@ -16,19 +17,29 @@ use crate::said::{Said, said_in};
 use cl_types::config::{ClientList, Config, NodeConfig, OffloadConfig, OffloadList};
 use cl_types::items::{Bytes, NoMemory};
 use cl_types::limits::{ADDRESS_END, MOST_CLIENTS, PAGE_BYTES};
-use cl_types::numbers::{Addr, ClientNo};
+use cl_types::numbers::{Addr, ClientNo, Pid};
 use cl_types::schedule::{Event, EventList, Schedule, What};
 use std::alloc::Global;
+use std::marker::Model;
 
-/// What the lines read so far say.
+/// What the lines read so far say. Whoever reads line by line begins with `create`, gives each line to `read_line` under
+/// its number, from 1 on, and ends with `finish`. A clause sees it as the grammar's reading.
 #[derive(Drop)]
-pub(crate) struct Reading {
+pub struct Reading {
     header: Bytes,
     node: Option<NodeConfig>,
     clients: ClientList,
     events: EventList,
     // Whether an event was read.
     begun: bool,
+}
+
+impl Model for Reading {
+    ghost use Rattle.flat_model.specs.Grammar as grammar;
+
+    ghost Value = { grammar.Reading };
+
+    ghost view = { λ r. record { header = r.header; node = r.node; clients = r.clients; events = r.events; begun = r.begun } };
 }
 
 /// What is wrong with a peek: it leaves its page, or its address is none.
@@ -50,8 +61,8 @@ fn frame_fault(is_frame: bool) -> Option<What>
 
 impl Reading {
     /// No line was read.
-    pub(crate) fn create(alloc: Global) -> Self
-        ensures { reading_of result ≡ nothing_read }
+    pub fn create(alloc: Global) -> Self
+        ensures { result ≡ nothing_read }
     {
         Reading {
             header: Bytes::create(alloc),
@@ -62,9 +73,30 @@ impl Reading {
         }
     }
 
+    /// The node's configuration, where one was given.
+    pub fn node(&self) -> Option<&NodeConfig>
+        ensures { option_map (λ c. c.now) result ≡ self.now.node }
+    {
+        self.node.as_ref()
+    }
+
+    /// The clients that were given.
+    pub fn clients(&self) -> &[(ClientNo, Pid)]
+        ensures { result.now ≡ self.now.clients }
+    {
+        self.clients.as_slice()
+    }
+
+    /// The events, with the numbers of their lines.
+    pub fn events(&self) -> &[(u32, Event)]
+        ensures { result.now ≡ self.now.events }
+    {
+        self.events.as_slice()
+    }
+
     /// Whether the client was given.
     fn is_given(&self, client: ClientNo) -> bool
-        ensures { result ≡ is_given (reading_of self.now) client }
+        ensures { result ≡ is_given self.now client }
     {
         for given in self.clients.as_slice() {
             if given.0.0 == client.0 {
@@ -76,7 +108,7 @@ impl Reading {
 
     /// What is wrong with the place of a line, by its first word.
     fn order_fault(&self, word: &[u8]) -> Option<What>
-        ensures { result ≡ first_fault (drop 2 (place_faults (reading_of self.now) [] word.now)) }
+        ensures { result ≡ first_fault (drop 2 (place_faults self.now [] word.now)) }
     {
         let has_node = self.node.is_some();
         let has_client = !self.clients.as_slice().is_empty();
@@ -95,20 +127,21 @@ impl Reading {
         None
     }
 
-    /// What is wrong with a line by its bytes, its spaces and its place.
-    fn place_fault<'a>(&'a self, line: &'a [u8], word: &'a [u8]) -> Option<What>
-        ensures { result ≡ first_fault (place_faults (reading_of self.now) line.now word.now) }
+    /// What is wrong with a line that isn't skipped, by its bytes, its spaces and its place.
+    pub fn place_fault(&self, line: &[u8]) -> Option<What>
+        ensures { result ≡ first_fault (place_faults self.now line.now (first_word (words_in line.now))) }
     {
         if let Some(what) = byte_fault(line) {
             return Some(what);
         }
+        let (word, _) = cut(line, b' ');
         self.order_fault(word)
     }
 
     /// What is wrong with the number of one client more.
     fn number_fault(&self, number: ClientNo) -> Option<What>
         ensures { result
-            ≡ first_fault (said_faults (reading_of self.now) (grammar.Client number 1)) }
+            ≡ first_fault (said_faults self.now (grammar.Client number 1)) }
     {
         if self.is_given(number) {
             return Some(What::ClientRepeated);
@@ -121,7 +154,7 @@ impl Reading {
 
     /// What is wrong with an event of this client alone.
     fn client_fault(&self, client: ClientNo) -> Option<What>
-        ensures { result ≡ first_fault (event_faults (reading_of self.now) (Event.Poll client)) }
+        ensures { result ≡ first_fault (event_faults self.now (Event.Poll client)) }
     {
         if self.is_given(client) {
             None
@@ -133,7 +166,7 @@ impl Reading {
     /// What is wrong with an event.
     fn event_fault(&self, alloc: Global, event: &Event) -> Result<Option<What>, NoMemory>
         ensures { IfOk result (λ fault.
-            fault ≡ first_fault (event_faults (reading_of self.now) event.now)) }
+            fault ≡ first_fault (event_faults self.now event.now)) }
     {
         match event {
             Event::Call { client, .. } | Event::Poll { client } => Ok(self.client_fault(*client)),
@@ -157,7 +190,7 @@ impl Reading {
     /// What is wrong with what a line says.
     fn said_fault(&self, alloc: Global, said: &Said) -> Result<Option<What>, NoMemory>
         ensures { IfOk result (λ fault.
-            fault ≡ first_fault (said_faults (reading_of self.now) (said_of said.now))) }
+            fault ≡ first_fault (said_faults self.now (said_of said.now))) }
     {
         match said {
             Said::Node { .. } | Said::Offload(_) => Ok(None),
@@ -168,10 +201,9 @@ impl Reading {
 
     /// What a line says, where nothing is wrong with it.
     fn line_said(&self, alloc: Global, line: &[u8]) -> Result<Said, Stop>
-        ensures { TellsBy said_of result (line_said (reading_of self.now) line.now) }
+        ensures { TellsBy said_of result (line_said self.now line.now) }
     {
-        let (word, _) = cut(line, b' ');
-        if let Some(what) = self.place_fault(line, word) {
+        if let Some(what) = self.place_fault(line) {
             return Err(Stop::Bad(what));
         }
         let said = said_in(alloc, line)?;
@@ -183,8 +215,8 @@ impl Reading {
 
     /// Keeps a line of the header.
     fn keep_line(&mut self, line: &[u8]) -> Result<(), NoMemory>
-        ensures { OnOk result (reading_of self.new
-            ≡ record (reading_of self.old) { header = self.old.header ++ line.now ++ 10 ∷ [] }) }
+        ensures { OnOk result (self.new
+            ≡ record self.old { header = self.old.header ++ line.now ++ 10 ∷ [] }) }
     {
         self.header.append(line)?;
         self.header.append(b"\n")
@@ -192,8 +224,8 @@ impl Reading {
 
     /// Adds what a line says.
     fn add(&mut self, alloc: Global, number: u32, line: &[u8], said: Said) -> Result<(), NoMemory>
-        ensures { OnOk result (reading_of self.new
-            ≡ read_more (reading_of self.old) number line.now (said_of said)) }
+        ensures { OnOk result (self.new
+            ≡ read_more self.old number line.now (said_of said)) }
     {
         match said {
             Said::Node {
@@ -231,8 +263,8 @@ impl Reading {
 
     /// Adds an offload to the node.
     fn add_offload(&mut self, offload: OffloadConfig) -> Result<(), NoMemory>
-        ensures { OnOk result (reading_of self.new
-            ≡ record (reading_of self.old) { node = with_offload offload self.old.node }) }
+        ensures { OnOk result (self.new
+            ≡ record self.old { node = with_offload offload self.old.node }) }
     {
         if let Some(node) = &mut self.node {
             node.offloads.push(offload)?;
@@ -242,14 +274,14 @@ impl Reading {
 
     /// Reads one line more.
     #[tactic(auto, using(crate::proofs::ReadingLemmas::line_bad, crate::proofs::ReadingLemmas::line_good))]
-    pub(crate) fn read_line(
+    pub fn read_line(
         &mut self,
         alloc: Global,
         number: u32,
         line: &[u8],
     ) -> Result<(), ScheduleFault>
-        ensures { LeavesOf (reading_of self.new) result
-            (line_read (reading_of self.old) number line.now) }
+        ensures { LeavesOf self.new result
+            (line_read self.old number line.now) }
     {
         if is_passed_over(line) {
             return Ok(());
@@ -265,8 +297,8 @@ impl Reading {
     }
 
     /// The schedule that was read; `number` is one more than that of the last line.
-    pub(crate) fn finish(self, number: u32) -> Result<Schedule, ScheduleFault>
-        ensures { Gives (at_end number (reading_of self) self.node) result }
+    pub fn finish(self, number: u32) -> Result<Schedule, ScheduleFault>
+        ensures { Gives (at_end number self self.node) result }
     {
         let Reading {
             header,

@@ -61,7 +61,7 @@ pub(crate) enum Said {
 }
 
 /// The line that a first word begins.
-fn line_word(word: &[u8]) -> Option<LineWord>
+pub(crate) fn line_word(word: &[u8]) -> Option<LineWord>
     ensures { result ≡ by_word word.now line_words }
 {
     if word == b"node".as_slice() {

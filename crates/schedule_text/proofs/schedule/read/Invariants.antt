@@ -1,12 +1,11 @@
 use Rattle.std.proofs.Common.{◌≡◌, ◌+◌, ◌≤◌, length}
 use Rattle.flat_model.specs.Text.{lines_in}
 use Rattle.flat_model.specs.Grammar.{nothing_read, schedule_from}
-use Rattle.schedule_text.specs.Readings.{reading_of}
 use Rattle.schedule_text.proofs.schedule.read.Given as goal
 
 abbrev pub invariant-loop-rest : goal.invariant-loop-rest
 invariant-loop-rest l = record {
-  read : schedule_from nothing_read 1 (lines_in l.bytes) ≡ schedule_from (reading_of l.reading) l.number (lines_in l.rest);
+  read : schedule_from nothing_read 1 (lines_in l.bytes) ≡ schedule_from l.reading l.number (lines_in l.rest);
   few : l.number + length (lines_in l.rest) ≤ 200001;
 }
 
