@@ -1,5 +1,5 @@
 -- What reading an input and writing all bytes do.
-use Rattle.std.specs.Prelude.{◌≡◌, ℕ, ◌+◌, ◌<◌, ◌≤◌, Bool, true, false, List, [], ◌++◌, length, take, IfSome}
+use Rattle.std.specs.Prelude.{◌≡◌, ℕ, ◌+◌, ◌<◌, ◌≤◌, Bool, true, false, List, [], ◌++◌, length, take, Result, Err, IfSome}
 use Rattle.std.specs.declared.option.Option.{Option}
 use Rattle.cl_outside.specs.Told.{Took, Added}
 use Rattle.cl_outside.specs.declared.loops.TheConstants.{INPUT_LIMIT}
@@ -19,6 +19,11 @@ IsPieceStop ReadFault = Unit {0}
 IsPieceStop NoMemory = Unit {0}
 IsPieceStop TooLong = ⊥
 IsPieceStop WriteFault = ⊥
+
+-- the count of faults stands, unless a read failed
+abbrev pub StandsUnlessFailed : {A : Type 0} → Result A Stop → ℕ → ℕ → Type 0
+StandsUnlessFailed (Err ReadFault) before now = Unit {0}
+StandsUnlessFailed other before now = now ≡ before
 
 -- so many were taken off the front
 abbrev pub TookCount : ℕ → Option (List ℕ) → Option (List ℕ) → Type 0

@@ -3,7 +3,7 @@
 ghost use Rattle.std.specs.Prelude.{◌≡◌, ◌<◌, ◌≤◌, ◌+◌, ◌++◌, [], length, IfOk, OnOk, IfErr, OnErr, IfSome, IsErrOf};
 ghost use Rattle.cl_outside.specs.Counts.{Rose};
 ghost use Rattle.cl_outside.specs.Told.{Added};
-ghost use Rattle.cl_outside.specs.Loops.{GotPiece, IsPieceStop, IsReadStop, TookCount, WroteFront};
+ghost use Rattle.cl_outside.specs.Loops.{GotPiece, IsPieceStop, IsReadStop, StandsUnlessFailed, TookCount, WroteFront};
 
 use crate::{Read, Sink, Source, Wrote};
 use std::alloc::{AllocError, Global};
@@ -44,7 +44,7 @@ fn read_piece<S: Source>(source: &mut S, bytes: &mut Vec<u8>) -> Result<bool, St
     ensures got { IfOk result (λ more.
         GotPiece more bytes.old.items bytes.new.items (S.left source.old) (S.left source.new)) }
     ensures stop { IfErr result IsPieceStop }
-    ensures counted { OnOk result (S.faults source.new ≡ S.faults source.old) }
+    ensures counted { StandsUnlessFailed result (S.faults source.old) (S.faults source.new) }
     ensures fault { IsErrOf result Stop.ReadFault
         → Rose (S.faults source.old) (S.faults source.new) }
     ensures later { S.faults source.old ≤ S.faults source.new }
@@ -67,7 +67,7 @@ pub fn read_input<S: Source>(alloc: Global, source: &mut S) -> Result<Vec<u8>, S
     ensures all { IfOk result (λ bytes. IfSome (S.left source.old) (λ left. bytes.items ≡ left)) }
     ensures end { OnOk result (IfSome (S.left source.new) (λ left. left ≡ [])) }
     ensures short { IfOk result (λ bytes. length bytes.items ≤ INPUT_LIMIT) }
-    ensures counted { OnOk result (S.faults source.new ≡ S.faults source.old) }
+    ensures counted { StandsUnlessFailed result (S.faults source.old) (S.faults source.new) }
     ensures stop { IfErr result IsReadStop }
     ensures fault { IsErrOf result Stop.ReadFault
         → Rose (S.faults source.old) (S.faults source.new) }
