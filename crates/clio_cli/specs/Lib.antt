@@ -5,7 +5,12 @@ pub mod History
 pub mod Engine
 pub mod Stands
 pub mod Built
+pub mod BuiltReading
 pub mod Replay
 pub mod Words
 pub mod Status
+pub mod Verdict
+pub mod Output
 pub mod Run
+pub mod Headline
+pub mod Stopping

@@ -1,21 +1,16 @@
 -- What the program does, as its source and its sink show it.
-use Rattle.std.specs.Prelude.{◌≡◌, ◌⊎◌, ℕ, ◌<◌, false, List, [], ◌++◌, length, Ok, Err, Some, None, IfSome, IsTrue, codes}
+use Rattle.std.specs.Prelude.{◌≡◌, ◌⊎◌, ℕ, ◌+◌, Bool, true, false, List, [], length, Some, IfSome, IsTrue}
 use Rattle.std.specs.declared.option.Option.{Option}
 use Rattle.cl_outside.specs.Counts.{Rose}
 use Rattle.cl_outside.specs.Loops.{WroteFront}
-use Rattle.cl_outside.specs.Told.{Added}
+use Rattle.cl_outside.specs.Told.{Added, Took}
 use Rattle.cl_outside.specs.declared.loops.TheConstants.{INPUT_LIMIT}
 use Rattle.cl_types.specs.declared.schedule.Schedule.{Schedule}
 use Rattle.flat_model.specs.Commands.{command_in}
-use Rattle.flat_model.specs.Grammar.{Fault, schedule_of}
-use Rattle.flat_model.specs.Opening.{open_fault}
-use Rattle.flat_model.specs.Text.{Text, line_end, lines_in}
-use Rattle.flat_model.specs.Texts.{fault_line, open_fault_line, transcript}
-use Rattle.flat_model.specs.declared.open_fault.OpenFault.{OpenFault}
-use Rattle.schedule_text.specs.Reading.{too_long_of}
-use Rattle.schedule_text.specs.declared.fault.TheConstants.{MOST_LINES}
-use Rattle.clio_cli.specs.Built.{is_built_schedule}
+use Rattle.flat_model.specs.Text.{Text}
+use Rattle.flat_model.specs.Texts.{transcript}
 use Rattle.clio_cli.specs.Status.{number_of}
+use Rattle.clio_cli.specs.Verdict.{Verdict, IsReplayable, bad_words, verdict}
 use Rattle.clio_cli.specs.Words.{is_built_command}
 use Rattle.clio_cli.specs.declared.status.Status.{Status}
 use Rattle.clio_cli.specs.declared.status.Status.TheVariants as status
@@ -27,66 +22,83 @@ pub record Outside : Type 0 where
   pub written : Option (List ℕ)
   pub write_faults : ℕ
 
+-- the same, of these
+abbrev pub outside : Option (List ℕ) → ℕ → Option (List ℕ) → ℕ → Outside
+outside left read_faults written write_faults = record { left = left; read_faults = read_faults; written = written; write_faults = write_faults }
+
+-- ---- the input
 -- these are all bytes of the source, which was read to its end
 pub record IsInput (bytes : List ℕ) (before after : Option (List ℕ)) : Type 0 where
   pub whole : IfSome before (λ left. bytes ≡ left)
   pub ended : IfSome after (λ left. left ≡ [])
 
--- the text of too many lines
-abbrev pub lines_text : Text
-lines_text = codes "too long: lines 200001" ++ line_end
+-- these were taken off the source, and are one more than an input may have
+pub record IsTooMany (bytes : List ℕ) (before after : Option (List ℕ)) : Type 0 where
+  pub count : length bytes ≡ INPUT_LIMIT + 1
+  pub taken : Took bytes before after
 
--- the text of too many bytes
-abbrev pub bytes_text : Text
-bytes_text = codes "too long: bytes 16777217" ++ line_end
+-- what the source gave: all that it had, or one byte more than an input may have
+abbrev pub Gave : List ℕ → Option (List ℕ) → Option (List ℕ) → Type 0
+Gave bytes before after = IsInput bytes before after ⊎ IsTooMany bytes before after
 
--- what is to be written for these bytes of an input, and with which status the program then ends
-abbrev pub Judges : List ℕ → Text → Status → Type 0
--- a schedule whose node opens: its transcript
-Judges bytes text status.Ok =
-    (too_long_of bytes ≡ None)
-    × (s : Schedule) × (schedule_of bytes ≡ Ok s) × IsTrue (is_built_schedule s) × (open_fault s.config.node ≡ None) × (text ≡ transcript s)
--- no schedule: its first bad line; or one with a line that is not built
-Judges bytes text status.BadInput =
-    (too_long_of bytes ≡ None)
-    × (((fault : Fault) × (schedule_of bytes ≡ Err fault) × (text ≡ fault_line fault))
-    ⊎ ((s : Schedule) × (schedule_of bytes ≡ Ok s) × (is_built_schedule s ≡ false)))
--- too many lines
-Judges bytes text status.TooLong = (MOST_LINES < length (lines_in bytes)) × (text ≡ lines_text)
--- a schedule whose node doesn't open: why
-Judges bytes text status.BadNode =
-    (too_long_of bytes ≡ None)
-    × (s : Schedule) × (fault : OpenFault) × (schedule_of bytes ≡ Ok s) × IsTrue (is_built_schedule s) × (open_fault s.config.node ≡ Some fault) × (text ≡ open_fault_line fault)
--- no other status is judged by the bytes
-Judges bytes text other = ⊥
+-- ---- what is to be written
+-- the verdict, by whether the words are a command that is built: of other words, and then the source is left, or of what
+-- the source gave
+abbrev pub WantsBy : Bool → Option (List ℕ) → Option (List ℕ) → Verdict → Type 0
+WantsBy false before after v = (after ≡ before) × (v ≡ bad_words)
+WantsBy true before after v = (bytes : List ℕ) × Gave bytes before after × (v ≡ verdict bytes)
 
--- the same of what a source has left before and after, which may be more bytes than are read
-abbrev pub Replays : Option (List ℕ) → Option (List ℕ) → Text → Status → Type 0
-Replays before after text status.TooLong =
-    (IfSome before (λ left. INPUT_LIMIT < length left) × (text ≡ bytes_text))
-    ⊎ ((bytes : List ℕ) × IsInput bytes before after × Judges bytes text status.TooLong)
-Replays before after text status = (bytes : List ℕ) × IsInput bytes before after × Judges bytes text status
+-- the verdict on a command line, with what the source has left before and after
+abbrev pub Wants : List Text → Option (List ℕ) → Option (List ℕ) → Verdict → Type 0
+Wants words before after v = WantsBy (is_built_command (command_in words)) before after v
 
--- the same of a command line
-abbrev pub Wants : List Text → Option (List ℕ) → Option (List ℕ) → Text → Status → Type 0
-Wants words before after text status.BadWords =
-    (is_built_command (command_in words) ≡ false) × (after ≡ before) × (text ≡ codes "bad words" ++ line_end)
-Wants words before after text status = IsTrue (is_built_command (command_in words)) × Replays before after text status
-
+-- ---- the end
 -- with which status the program ends
 abbrev pub Ends : List Text → Outside → Outside → Status → Type 0
 -- the words are a command, a read failed, and nothing was written
 Ends words before after status.ReadFault =
     IsTrue (is_built_command (command_in words)) × Rose before.read_faults after.read_faults × (after.written ≡ before.written)
+    × (after.write_faults ≡ before.write_faults)
 -- a write failed, and a front of what was to be written was
 Ends words before after status.WriteFault =
-    Rose before.write_faults after.write_faults
-    × (wanted : Status) × (text : Text) × Wants words before.left after.left text wanted × WroteFront text before.written after.written
+    Rose before.write_faults after.write_faults × (after.read_faults ≡ before.read_faults)
+    × (v : Verdict) × Wants words before.left after.left v × WroteFront v.text before.written after.written
 -- there was no memory, and nothing was written
-Ends words before after status.NoMemory = after.written ≡ before.written
--- what was wanted was written, whole
-Ends words before after status = (text : Text) × Wants words before.left after.left text status × Added text before.written after.written
+Ends words before after status.NoMemory =
+    (after.written ≡ before.written) × (after.read_faults ≡ before.read_faults) × (after.write_faults ≡ before.write_faults)
+-- the verdict has this status, and its text was written, whole
+Ends words before after status =
+    (after.read_faults ≡ before.read_faults) × (after.write_faults ≡ before.write_faults)
+    × (v : Verdict) × Wants words before.left after.left v × (v.status ≡ status) × Added v.text before.written after.written
 
 -- the status of this number is one with which the program ends so
 abbrev pub EndsWith : List Text → Outside → Outside → ℕ → Type 0
 EndsWith words before after number = (status : Status) × (number ≡ number_of status) × Ends words before after status
+
+-- ---- when each status comes
+-- no count of faults rose
+pub record NoFault (before after : Outside) : Type 0 where
+  pub read : Rose before.read_faults after.read_faults → ⊥
+  pub write : Rose before.write_faults after.write_faults → ⊥
+
+-- the status is n only from this cause, and from this cause it is n, unless a count of faults rose or there was no memory
+pub record Exactly (before after : Outside) (number n : ℕ) (Cause : Type 0) : Type 0 where
+  pub only : number ≡ n → Cause
+  pub always : Cause → NoFault before after → (number ≡ n) ⊎ (number ≡ number_of status.NoMemory)
+
+-- the same of a command whose source tells its bytes, of which the cause is
+abbrev pub ExactlyOf : List Text → Outside → Outside → ℕ → ℕ → (List ℕ → Type 0) → Type 0
+ExactlyOf words before after number n Cause =
+    IfSome before.left (λ bytes. Exactly before after number n (IsTrue (is_built_command (command_in words)) × Cause bytes))
+
+-- where the words are a command, the source tells a schedule whose node opens, and no count of faults rose: its transcript
+-- was written, whole, and the status is that of success, or there was no memory
+abbrev pub Complete : List Text → Outside → Outside → ℕ → Type 0
+Complete words before after number = IfSome before.left (λ bytes.
+    (s : Schedule) → IsTrue (is_built_command (command_in words)) → IsReplayable bytes s → NoFault before after
+    → ((number ≡ number_of status.Ok) × Added (transcript s) before.written after.written) ⊎ (number ≡ number_of status.NoMemory))
+
+-- the status of a fault comes only where its count rose
+pub record FaultsAreCounted (before after : Outside) (number : ℕ) : Type 0 where
+  pub read : number ≡ number_of status.ReadFault → Rose before.read_faults after.read_faults
+  pub write : number ≡ number_of status.WriteFault → Rose before.write_faults after.write_faults

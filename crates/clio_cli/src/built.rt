@@ -1,15 +1,61 @@
-//! The kinds of lines that are built. A schedule with another is refused, by the number of its first such line.
+//! The lines that are built. A line of another kind is refused by its number, and so is a built kind's with arguments
+//! that the engine doesn't take.
 
-ghost use Rattle.std.specs.Prelude.{◌≡◌, ℕ};
-ghost use Rattle.std.specs.List.{list_all};
-ghost use Rattle.clio_cli.specs.Built.{is_built_schedule};
+ghost use Rattle.std.specs.Prelude.{◌≡◌, ℕ, ◌-◌, length, option_map, slice_get};
+ghost use Rattle.std.specs.List.{list_any};
+ghost use Rattle.clio_cli.specs.Built.{has_no_offload, is_built_for, is_built_kind, is_unbuilt};
 ghost use Rattle.clio_cli.specs.BuiltCalls.{is_at_most_a_part, is_built_call};
 ghost use Rattle.clio_cli.specs.Engine.{is_built_event};
 
 use crate::client::written_len;
+use cl_types::config::NodeConfig;
 use cl_types::limits::{ADDRESS_END, PAGE_BYTES, PART_BYTES};
-use cl_types::numbers::{Addr, ClientNo};
-use cl_types::schedule::{CallText, Event, Schedule};
+use cl_types::numbers::{Addr, ClientNo, Pid};
+use cl_types::schedule::{CallText, Event};
+use schedule_text::{CallWord, Kind};
+
+// ---- by the words of a line
+
+fn is_built_kind(kind: Kind) -> bool
+    ensures { result ≡ is_built_kind kind }
+{
+    match kind {
+        Kind::Node
+        | Kind::Client
+        | Kind::Call(CallWord::Alloc | CallWord::Read | CallWord::Write)
+        | Kind::Poll
+        | Kind::DeliverNext
+        | Kind::Peek => true,
+        Kind::Call(
+            CallWord::Free
+            | CallWord::Lock
+            | CallWord::Unlock
+            | CallWord::Add
+            | CallWord::Cas
+            | CallWord::Offload
+            | CallWord::Fence,
+        )
+        | Kind::Offload
+        | Kind::Deliver
+        | Kind::Drop
+        | Kind::Tick
+        | Kind::Show
+        | Kind::Stat
+        | Kind::Garbage => false,
+    }
+}
+
+/// Whether the kind is there and is not built.
+pub fn is_unbuilt(kind: Option<Kind>) -> bool
+    ensures { result ≡ is_unbuilt kind }
+{
+    match kind {
+        None => false,
+        Some(kind) => !is_built_kind(kind),
+    }
+}
+
+// ---- by what a line says
 
 // Whether so many bytes are one part, if any.
 fn is_at_most_a_part(addr: Addr, n: usize) -> bool
@@ -56,59 +102,36 @@ fn is_built_event(client: ClientNo, event: &Event) -> bool
     }
 }
 
-fn are_built(client: ClientNo, events: &[(u32, Event)]) -> bool
-    ensures { result ≡ list_all (λ (e : ℕ × Event). is_built_event client e.1) events.now }
+/// Whether the node, where one was given, has no offload.
+pub fn has_no_offload(node: Option<&NodeConfig>) -> bool
+    ensures { result ≡ has_no_offload (option_map (λ c. c.now) node.entry) }
 {
-    events.iter().all(|event| is_built_event(client, &event.1))
+    match node {
+        None => true,
+        Some(node) => node.offloads.as_slice().is_empty(),
+    }
 }
 
-/// Whether the schedule has no line of a kind that is not built yet.
-pub fn is_built(schedule: &Schedule) -> bool
-    ensures { result ≡ is_built_schedule schedule.now }
+// The last event, with the number of its line, where there is one.
+fn last_of(events: &[(u32, Event)]) -> Option<&(u32, Event)>
+    ensures { option_map (λ e. e.now) result ≡ slice_get events.now (length events.now - 1) }
 {
-    match schedule.config.clients.as_slice() {
-        [(client, _)] => {
-            schedule.config.node.offloads.as_slice().is_empty()
-                && are_built(*client, schedule.events.as_slice())
-        }
-        _ => false,
-    }
+    events.last()
 }
 
-// The number of the line that begins with these bytes, of so many that do.
-fn line_number(bytes: &[u8], start: &[u8], nth: u32) -> Option<u32> {
-    let mut number = 0u32;
-    let mut left = nth;
-    for line in bytes.split(|b| *b == b'\n') {
-        number = number.saturating_add(1);
-        if line.starts_with(start) {
-            left = left.saturating_sub(1);
-            if left == 0 {
-                return Some(number);
-            }
-        }
-    }
-    None
+// Whether the event is built for one of the clients.
+fn is_built_for_one(clients: &[(ClientNo, Pid)], event: &Event) -> bool
+    ensures { result ≡ list_any (λ (c : ClientNo × ℕ). is_built_event c.0 event.now) clients.now }
+{
+    clients.iter().any(|client| is_built_event(client.0, event))
 }
 
-// The line of the first event that is not built.
-fn first_event(client: ClientNo, events: &[(u32, Event)]) -> u32 {
-    for (number, event) in events {
-        if !is_built_event(client, event) {
-            return *number;
-        }
-    }
-    0
-}
-
-/// The first line that is not built, of a schedule that has one: an offload line, the second line of a client, or that
-/// of an event.
-pub fn first_unbuilt(bytes: &[u8], schedule: &Schedule) -> u32 {
-    if let Some(number) = line_number(bytes, b"offload ", 1) {
-        return number;
-    }
-    match schedule.config.clients.as_slice() {
-        [(client, _)] => first_event(*client, schedule.events.as_slice()),
-        _ => line_number(bytes, b"client ", 2).unwrap_or(0),
+/// Whether the last event, where there is one, is built for one of the clients.
+pub fn is_built_last(clients: &[(ClientNo, Pid)], events: &[(u32, Event)]) -> bool
+    ensures { result ≡ is_built_for clients.now (slice_get events.now (length events.now - 1)) }
+{
+    match last_of(events) {
+        None => true,
+        Some(last) => is_built_for_one(clients, &last.1),
     }
 }

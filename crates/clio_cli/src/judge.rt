@@ -1,17 +1,18 @@
 //! What is to be written for the bytes of an input.
 
-ghost use Rattle.std.specs.Prelude.{◌≡◌, ◌≤◌, Ok, Err, Some, None, IfOk, IfErr, IsTrue, false, length};
+ghost use Rattle.std.specs.Prelude.{◌≡◌, ◌≤◌, Ok, Err, Some, None, IfOk, IfErr, IsTrue, length};
 ghost use Rattle.cl_outside.specs.declared.loops.TheConstants.{INPUT_LIMIT};
-ghost use Rattle.flat_model.specs.Grammar.{schedule_of};
 ghost use Rattle.flat_model.specs.Opening.{open_fault};
 ghost use Rattle.flat_model.specs.State.{opening};
 ghost use Rattle.schedule_text.specs.Reading.{too_long_of};
-ghost use Rattle.clio_cli.specs.Built.{is_built_schedule};
-ghost use Rattle.clio_cli.specs.Run.{Judges, lines_text};
+ghost use Rattle.account_laws.specs.Schedules.{IsRisingFrom};
+ghost use Rattle.clio_cli.specs.Built.{Bad, NotBuilt, built_schedule_of, is_built_schedule};
+ghost use Rattle.clio_cli.specs.Output.{verdict_of};
+ghost use Rattle.clio_cli.specs.Verdict.{lines_text, verdict, verdict_at_opening, verdict_on_schedule};
 
 use crate::ask::copied;
-use crate::built::{first_unbuilt, is_built};
 use crate::faults::{line_fault, line_not_built, node_fault};
+use crate::reading::{Refusal, read_built};
 use crate::replay::transcript_of;
 use crate::status::Status;
 use cl_types::config::NodeConfig;
@@ -20,7 +21,7 @@ use cl_types::schedule::{Schedule, What};
 use flat_model::flat::Flat;
 use flat_model::open_fault::OpenFault;
 use flat_model::opening::create;
-use schedule_text::{ScheduleFault, read};
+use schedule_text::too_long;
 use std::alloc::Global;
 
 /// A text that is to be written, and the status with which the program then ends.
@@ -40,51 +41,35 @@ pub fn output_of(alloc: Global, text: &[u8], status: Status) -> Result<Output, N
 }
 
 // For a bad line.
-fn bad_line(alloc: Global, bytes: &[u8], number: u32, what: What) -> Result<Output, NoMemory>
-    requires short { too_long_of bytes.now ≡ None }
-    requires bad { schedule_of bytes.now ≡ Err (number, what) }
-    ensures { IfOk result (λ output. Judges bytes.now output.text output.status) }
+fn bad_line(alloc: Global, number: u32, what: What) -> Result<Output, NoMemory>
+    ensures { IfOk result (λ output. verdict_of output ≡ verdict_on_schedule (Err (Bad (number, what)))) }
 {
     let text = line_fault(alloc, number, what)?;
     output_of(alloc, text.as_bytes(), Status::BadInput)
 }
 
-// For a schedule with a line that is not built.
-fn not_built(alloc: Global, bytes: &[u8], schedule: &Schedule) -> Result<Output, NoMemory>
-    requires short { too_long_of bytes.now ≡ None }
-    requires read { schedule_of bytes.now ≡ Ok schedule.now }
-    requires unbuilt { is_built_schedule schedule.now ≡ false }
-    ensures { IfOk result (λ output. Judges bytes.now output.text output.status) }
+// For a line that is not built.
+fn not_built(alloc: Global, number: u32) -> Result<Output, NoMemory>
+    ensures { IfOk result (λ output. verdict_of output ≡ verdict_on_schedule (Err (NotBuilt number))) }
 {
-    let text = line_not_built(alloc, first_unbuilt(bytes, schedule))?;
+    let text = line_not_built(alloc, number)?;
     output_of(alloc, text.as_bytes(), Status::BadInput)
 }
 
 // For a node that doesn't open.
-fn bad_node(
-    alloc: Global,
-    bytes: &[u8],
-    schedule: &Schedule,
-    fault: OpenFault,
-) -> Result<Output, NoMemory>
-    requires short { too_long_of bytes.now ≡ None }
-    requires read { schedule_of bytes.now ≡ Ok schedule.now }
-    requires built { IsTrue (is_built_schedule schedule.now) }
-    requires fault { open_fault schedule.now.config.node ≡ Some fault }
-    ensures { IfOk result (λ output. Judges bytes.now output.text output.status) }
+fn bad_node(alloc: Global, schedule: &Schedule, fault: OpenFault) -> Result<Output, NoMemory>
+    ensures { IfOk result (λ output. verdict_of output ≡ verdict_at_opening schedule.now (Some fault)) }
 {
     let text = node_fault(alloc, fault)?;
     output_of(alloc, text.as_bytes(), Status::BadNode)
 }
 
 // For a node that opens.
-fn opened(alloc: Global, bytes: &[u8], schedule: &Schedule, flat: Flat) -> Result<Output, NoMemory>
-    requires short { too_long_of bytes.now ≡ None }
-    requires read { schedule_of bytes.now ≡ Ok schedule.now }
+fn opened(alloc: Global, schedule: &Schedule, flat: Flat) -> Result<Output, NoMemory>
     requires built { IsTrue (is_built_schedule schedule.now) }
-    requires opens { open_fault schedule.now.config.node ≡ None }
+    requires rising { IsRisingFrom 1 schedule.now.events }
     requires opened { flat ≡ opening schedule.now.config.node }
-    ensures { IfOk result (λ output. Judges bytes.now output.text output.status) }
+    ensures { IfOk result (λ output. verdict_of output ≡ verdict_at_opening schedule.now None) }
 {
     let text = transcript_of(alloc, schedule, flat)?;
     Ok(Output {
@@ -106,37 +91,37 @@ fn open(alloc: Global, config: &NodeConfig) -> Result<Result<Flat, OpenFault>, N
 }
 
 // For a schedule.
-fn judge_schedule(alloc: Global, bytes: &[u8], schedule: &Schedule) -> Result<Output, NoMemory>
-    requires short { too_long_of bytes.now ≡ None }
-    requires read { schedule_of bytes.now ≡ Ok schedule.now }
-    ensures { IfOk result (λ output. Judges bytes.now output.text output.status) }
+fn judge_schedule(alloc: Global, schedule: &Schedule) -> Result<Output, NoMemory>
+    requires built { IsTrue (is_built_schedule schedule.now) }
+    requires rising { IsRisingFrom 1 schedule.now.events }
+    ensures { IfOk result (λ output. verdict_of output ≡ verdict_on_schedule (Ok schedule.now)) }
 {
-    if !is_built(schedule) {
-        return not_built(alloc, bytes, schedule);
-    }
     match open(alloc, &schedule.config.node)? {
-        Ok(flat) => opened(alloc, bytes, schedule, flat),
-        Err(fault) => bad_node(alloc, bytes, schedule, fault),
+        Ok(flat) => opened(alloc, schedule, flat),
+        Err(fault) => bad_node(alloc, schedule, fault),
     }
 }
 
-// For too many lines.
-fn too_many_lines(alloc: Global) -> Result<Output, NoMemory>
-    ensures text { IfOk result (λ output. output.text ≡ lines_text) }
-    ensures status { IfOk result (λ output. output.status ≡ Status.TooLong) }
+// For an input within the limits.
+fn judge_lines(alloc: Global, bytes: &[u8]) -> Result<Output, NoMemory>
+    requires { too_long_of bytes.now ≡ None }
+    ensures { IfOk result (λ output. verdict_of output ≡ verdict_on_schedule (built_schedule_of bytes.now)) }
 {
-    output_of(alloc, b"too long: lines 200001\n", Status::TooLong)
+    match read_built(alloc, bytes) {
+        Ok(schedule) => judge_schedule(alloc, &schedule),
+        Err(Refusal::Bad { number, what }) => bad_line(alloc, number, what),
+        Err(Refusal::NotBuilt { number }) => not_built(alloc, number),
+        Err(Refusal::NoMemory) => Err(NoMemory),
+    }
 }
 
 /// What is to be written for the bytes of an input.
 pub fn judge(alloc: Global, bytes: &[u8]) -> Result<Output, NoMemory>
     requires { length bytes.now ≤ INPUT_LIMIT }
-    ensures { IfOk result (λ output. Judges bytes.now output.text output.status) }
+    ensures { IfOk result (λ output. verdict_of output ≡ verdict bytes.now) }
 {
-    match read(alloc, bytes) {
-        Ok(schedule) => judge_schedule(alloc, bytes, &schedule),
-        Err(ScheduleFault::Line { number, what }) => bad_line(alloc, bytes, number, what),
-        Err(ScheduleFault::TooLong { .. }) => too_many_lines(alloc),
-        Err(ScheduleFault::NoMemory) => Err(NoMemory),
+    if too_long(bytes).is_some() {
+        return output_of(alloc, b"too long: lines 200001\n", Status::TooLong);
     }
+    judge_lines(alloc, bytes)
 }

@@ -1,5 +1,6 @@
-//! The law that joins the engine to the account of a schedule.
+//! The law that joins the engine to the account of a schedule, and what the account of every schedule keeps.
 
+ghost use Rattle.clio_cli.specs.Headline.{LawOfHeadline};
 ghost use Rattle.clio_cli.specs.Stands.{EngineStands};
 
 /// An engine that stands for an account, and whose client's poll sends at most one part, for the first time, stands for
@@ -7,4 +8,11 @@ ghost use Rattle.clio_cli.specs.Stands.{EngineStands};
 #[tactic(auto, using(crate::proofs::Refine::event_refines))]
 pub fn engine_stands()
     ensures { EngineStands }
+{}
+
+/// The history of every schedule that bytes spell is a run of the flat machine from empty spaces; each entry stands at a
+/// delivery of its own frame; each part of an answered call is there exactly once, with the reply that made its answer,
+/// and any other at most once; a client's dependent calls stand in issue order; every peek shows the run's memory.
+pub fn headline()
+    ensures { LawOfHeadline }
 {}

@@ -1,10 +1,13 @@
 //! The top call.
 
-ghost use Rattle.std.specs.Prelude.{◌≡◌, IfOk, IsErrOf, IsTrue};
-ghost use Rattle.cl_outside.specs.Counts.{Rose};
+ghost use Rattle.std.specs.Prelude.{◌≡◌, IfOk, IsErrOf, IsTrue, true, false};
 ghost use Rattle.flat_model.specs.Commands.{command_in};
+ghost use Rattle.clio_cli.specs.Output.{verdict_of};
+ghost use Rattle.clio_cli.specs.Run.{Complete, Ends, EndsWith, Exactly, ExactlyOf, FaultsAreCounted, Wants, WantsBy, outside};
+ghost use Rattle.clio_cli.specs.Headline.{EndsInHeadline};
+ghost use Rattle.clio_cli.specs.Stopping.{CountsHalt};
+ghost use Rattle.clio_cli.specs.Verdict.{HasBadNode, IsRefused, IsTooLong};
 ghost use Rattle.clio_cli.specs.Words.{is_built_command};
-ghost use Rattle.clio_cli.specs.Run.{Ends, EndsWith, Replays, Wants};
 
 use crate::judge::{Output, judge, output_of};
 use crate::status::Status;
@@ -33,8 +36,8 @@ impl From<NoMemory> for Halt {
 
 // What is to be written for the bytes of a source.
 fn replay<S: Source>(alloc: Global, source: &mut S) -> Result<Output, Halt>
-    ensures output { IfOk result (λ output. Replays (S.left source.old) (S.left source.new) output.text output.status) }
-    ensures fault { IsErrOf result Halt.ReadFault → Rose (S.faults source.old) (S.faults source.new) }
+    ensures output { IfOk result (λ output. WantsBy true (S.left source.old) (S.left source.new) (verdict_of output)) }
+    ensures counted { CountsHalt (S.faults source.old) (S.faults source.new) result }
 {
     match read_input(alloc, source) {
         Ok(bytes) => Ok(judge(alloc, &bytes)?),
@@ -46,9 +49,9 @@ fn replay<S: Source>(alloc: Global, source: &mut S) -> Result<Output, Halt>
 
 // What is to be written for a command line.
 fn wanted<S: Source>(alloc: Global, words: &Words, source: &mut S) -> Result<Output, Halt>
-    ensures output { IfOk result (λ output. Wants words.now (S.left source.old) (S.left source.new) output.text output.status) }
-    ensures fault { IsErrOf result Halt.ReadFault
-        → IsTrue (is_built_command (command_in words.now)) × Rose (S.faults source.old) (S.faults source.new) }
+    ensures output { IfOk result (λ output. Wants words.now (S.left source.old) (S.left source.new) (verdict_of output)) }
+    ensures counted { CountsHalt (S.faults source.old) (S.faults source.new) result }
+    ensures fault { IsErrOf result Halt.ReadFault → IsTrue (is_built_command (command_in words.now)) }
 {
     if !words.are_built() {
         return Ok(output_of(alloc, b"bad words\n", Status::BadWords)?);
@@ -59,8 +62,8 @@ fn wanted<S: Source>(alloc: Global, words: &Words, source: &mut S) -> Result<Out
 // Serves a command line.
 fn serve<S: Source, K: Sink>(alloc: Global, words: &Words, source: &mut S, sink: &mut K) -> Status
     ensures { Ends words.now
-        (record { left = S.left source.old; read_faults = S.faults source.old; written = K.written sink.old; write_faults = K.faults sink.old })
-        (record { left = S.left source.new; read_faults = S.faults source.new; written = K.written sink.new; write_faults = K.faults sink.new })
+        (outside (S.left source.old) (S.faults source.old) (K.written sink.old) (K.faults sink.old))
+        (outside (S.left source.new) (S.faults source.new) (K.written sink.new) (K.faults sink.new))
         result }
 {
     match wanted(alloc, words, source) {
@@ -76,8 +79,36 @@ fn serve<S: Source, K: Sink>(alloc: Global, words: &Words, source: &mut S, sink:
 /// Serves a command line, and answers the status with which the program is to end.
 pub fn run<S: Source, K: Sink>(alloc: Global, words: &Words, source: &mut S, sink: &mut K) -> u8
     ensures ends { EndsWith words.now
-        (record { left = S.left source.old; read_faults = S.faults source.old; written = K.written sink.old; write_faults = K.faults sink.old })
-        (record { left = S.left source.new; read_faults = S.faults source.new; written = K.written sink.new; write_faults = K.faults sink.new })
+        (outside (S.left source.old) (S.faults source.old) (K.written sink.old) (K.faults sink.old))
+        (outside (S.left source.new) (S.faults source.new) (K.written sink.new) (K.faults sink.new))
+        result }
+    ensures complete { Complete words.now
+        (outside (S.left source.old) (S.faults source.old) (K.written sink.old) (K.faults sink.old))
+        (outside (S.left source.new) (S.faults source.new) (K.written sink.new) (K.faults sink.new))
+        result }
+    ensures headline { EndsInHeadline
+        (outside (S.left source.old) (S.faults source.old) (K.written sink.old) (K.faults sink.old))
+        (outside (S.left source.new) (S.faults source.new) (K.written sink.new) (K.faults sink.new))
+        result }
+    ensures bad_words { Exactly
+        (outside (S.left source.old) (S.faults source.old) (K.written sink.old) (K.faults sink.old))
+        (outside (S.left source.new) (S.faults source.new) (K.written sink.new) (K.faults sink.new))
+        result 1 (is_built_command (command_in words.now) ≡ false) }
+    ensures bad_input { ExactlyOf words.now
+        (outside (S.left source.old) (S.faults source.old) (K.written sink.old) (K.faults sink.old))
+        (outside (S.left source.new) (S.faults source.new) (K.written sink.new) (K.faults sink.new))
+        result 2 IsRefused }
+    ensures too_long { ExactlyOf words.now
+        (outside (S.left source.old) (S.faults source.old) (K.written sink.old) (K.faults sink.old))
+        (outside (S.left source.new) (S.faults source.new) (K.written sink.new) (K.faults sink.new))
+        result 8 IsTooLong }
+    ensures bad_node { ExactlyOf words.now
+        (outside (S.left source.old) (S.faults source.old) (K.written sink.old) (K.faults sink.old))
+        (outside (S.left source.new) (S.faults source.new) (K.written sink.new) (K.faults sink.new))
+        result 10 HasBadNode }
+    ensures faults { FaultsAreCounted
+        (outside (S.left source.old) (S.faults source.old) (K.written sink.old) (K.faults sink.old))
+        (outside (S.left source.new) (S.faults source.new) (K.written sink.new) (K.faults sink.new))
         result }
 {
     serve(alloc, words, source, sink).number()

@@ -1,0 +1,49 @@
+-- What every history that is printed keeps.
+use Rattle.std.specs.Prelude.{◌≡◌, ℕ, List, Ok}
+use Rattle.cl_outside.specs.Told.{Added}
+use Rattle.cl_types.specs.declared.config.Config.{Config}
+use Rattle.cl_types.specs.declared.schedule.Schedule.{Schedule}
+use Rattle.flat_model.specs.Account.{Account}
+use Rattle.flat_model.specs.Events.{account}
+use Rattle.flat_model.specs.Grammar.{schedule_of}
+use Rattle.flat_model.specs.Properties.{Once, Ordered, Peeks, Stands}
+use Rattle.flat_model.specs.Run.{IsRun}
+use Rattle.flat_model.specs.Texts.{transcript}
+use Rattle.account_laws.specs.Times.{AreOfAge}
+use Rattle.clio_cli.specs.Run.{IsInput, Outside}
+use Rattle.clio_cli.specs.Status.{number_of}
+use Rattle.clio_cli.specs.Verdict.{IsReplayable}
+use Rattle.clio_cli.specs.declared.status.Status.TheVariants as status
+
+-- what the account of a schedule keeps, of whose history the transcript has a line for each entry
+pub record Headline (config : Config) (a : Account) : Type 0 where
+  -- the history is a run of the flat machine from empty spaces, which read as zeros
+  pub run : IsRun config.node a.history
+  -- each entry stands at a delivery of its own frame
+  pub stands : Stands a
+  -- each part of an answered call is there exactly once, with the reply that made its answer, and any other at most once
+  pub once : Once config a
+  -- the entries of a client's dependent calls stand in issue order
+  pub ordered : Ordered a
+  -- every peek shows the run's memory there
+  pub peeks : Peeks config a
+  -- no frame carries a part that is too old, or that was given up, or whose entry is as old as the span
+  pub times : AreOfAge a
+
+-- the account of every schedule that bytes spell keeps it
+abbrev pub LawOfHeadline : Type 0
+LawOfHeadline = (bytes : List ℕ) (s : Schedule) → schedule_of bytes ≡ Ok s → Headline s.config (account s.config s.events)
+
+-- the transcript of the schedule that the input spells was written, whole, and the account that it tells keeps it
+pub record WroteHeadline (before after : Outside) : Type 0 where
+  pub bytes : List ℕ
+  pub input : IsInput bytes before.left after.left
+  pub schedule : Schedule
+  pub spelled : schedule_of bytes ≡ Ok schedule
+  pub replayable : IsReplayable bytes schedule
+  pub printed : Added (transcript schedule) before.written after.written
+  pub headline : Headline schedule.config (account schedule.config schedule.events)
+
+-- with the status of success such a transcript was written
+abbrev pub EndsInHeadline : Outside → Outside → ℕ → Type 0
+EndsInHeadline before after number = number ≡ number_of status.Ok → WroteHeadline before after
