@@ -1,6 +1,8 @@
 //! What no clause says: values from outside, and that calls succeed where memory is ample.
 
-use crate::{ScheduleFault, read, read_script};
+use crate::{
+    CallWord, Kind, Reading, ScheduleFault, is_passed_over, kind_of, next_line, read, read_script, too_long,
+};
 use cl_types::config::OffloadConfig;
 use cl_types::schedule::{CallText, Event, What};
 use std::test::Fail;
@@ -118,5 +120,45 @@ fn a_script_is_read(rt: HostRuntime) -> Result<(), Fail> {
     assert_eq!(rt; calls.len(), 4);
     assert_eq!(rt; [calls[0].0, calls[3].0], [2, 6]);
     assert!(rt; matches!(calls[3].1, CallText::Fence));
+    Ok(())
+}
+
+#[test]
+fn the_kind_of_a_line_is_told_by_its_words(rt: HostRuntime) {
+    let cases: [(&[u8], Option<Kind>); 9] = [
+        (b"deliver", Some(Kind::Deliver)),
+        (b"deliver next x", Some(Kind::DeliverNext)),
+        (b"call 1", None),
+        (b"call x free", Some(Kind::Call(CallWord::Free))),
+        (b"offload kv", Some(Kind::Offload)),
+        (b"offload", None),
+        (b"", None),
+        (b"hold", None),
+        (b"stat x", Some(Kind::Stat)),
+    ];
+    for (line, kind) in cases {
+        assert_eq!(rt; kind_of(line), kind);
+    }
+}
+
+#[test]
+fn a_schedule_is_read_line_by_line(rt: HostRuntime) -> Result<(), Fail> {
+    let alloc = rt.alloc();
+    let mut rest: &[u8] = b"node 16 8 4 4\nclient 1 1\n\ndrop";
+    assert!(rt; too_long(rest).is_none());
+    let mut reading = Reading::create(alloc);
+    for number in 1..=4 {
+        assert!(rt; !rest.is_empty());
+        let (line, more) = next_line(rest);
+        assert_eq!(rt; is_passed_over(line), number == 3);
+        assert!(rt; number == 3 || reading.place_fault(line).is_none());
+        reading.read_line(alloc, number, line)?;
+        rest = more;
+    }
+    assert_eq!(rt; reading.place_fault(b"client 2 1"), Some(What::OutOfPlace));
+    assert!(rt; reading.node().is_some());
+    assert_eq!(rt; [reading.clients().len(), reading.events().len()], [1, 1]);
+    let schedule = reading.finish(5)?;
+    assert_eq!(rt; schedule.header.as_slice(), b"node 16 8 4 4\nclient 1 1\n".as_slice());
     Ok(())
 }
