@@ -1,16 +1,15 @@
 -- A schedule of built lines is the schedule that the grammar gives, and each of its lines is built.
-use Rattle.std.proofs.Common.{◌≡◌, ℕ, zero, suc, ◌+◌, ◌-◌, ◌≤◌, Bool, true, false, List, [], ◌∷◌, ◌++◌, Option, Some, None, Ok, Err, refl, ◌⊎◌, inl, inr, sym, ap, subst, ◌∙◌, arith, length, length-append}
+use Rattle.std.proofs.Common.{◌≡◌, ℕ, suc, ◌+◌, ◌-◌, ◌≤◌, Bool, true, false, List, [], ◌∷◌, ◌++◌, Some, Ok, Err, refl, ◌⊎◌, inl, inr, sym, ap, subst, ◌∙◌, arith, length, length-append}
 use Rattle.std.specs.Prelude.{◌==◌, ◌&&◌, ◌||◌, Result, if◌then◌else◌, leb, slice_get}
 use Rattle.std.specs.List.{AllByRecursion as Each, list_all}
 use Rattle.std.proofs.lemmas.Bool.Decides.{nat_tests}
-use Rattle.cl_types.specs.declared.config.NodeConfig.{NodeConfig}
 use Rattle.cl_types.specs.declared.numbers.ClientNo.{ClientNo}
 use Rattle.cl_types.specs.declared.schedule.Event.{Event}
 use Rattle.cl_types.specs.declared.schedule.Schedule.{Schedule}
 use Rattle.flat_model.specs.Grammar.{Fault, Reading, Said, Node, Offload, Client, Happens, at_end, line_read, nothing_read, read_more, schedule_from, schedule_of}
 use Rattle.flat_model.specs.Text.{Text, is_empty, lines_in}
-use Rattle.account_laws.proofs.Lists.{each_append, each_weaker}
-use Rattle.clio_cli.specs.Built.{Refused, Bad, NotBuilt, built_after, built_end, built_from, built_line, built_schedule_of, has_no_offload, is_built_for, is_built_schedule, is_built_with, is_still_built, is_told_by_kind}
+use Rattle.account_laws.proofs.Lists.{each_append}
+use Rattle.clio_cli.specs.Built.{Refused, Bad, NotBuilt, built_after, built_end, built_from, built_schedule_of, has_no_offload, is_built_for, is_built_schedule, is_built_with, is_still_built, is_told_by_kind}
 use Rattle.clio_cli.specs.Engine.{is_built_event}
 use Rattle.clio_cli.proofs.ReadLemmas.{Adds, AtEnd, ends_with, got, line_adds, no_value}
 

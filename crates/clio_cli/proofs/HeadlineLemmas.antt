@@ -1,32 +1,29 @@
 -- The laws of the account, for every schedule that was read.
-use Rattle.std.proofs.Common.{◌≡◌, ℕ, ◌+◌, ◌≤◌, List, [], ◌∷◌, Option, Ok, arith}
-use Rattle.cl_types.specs.declared.schedule.Event.{Event}
+use Rattle.std.proofs.Common.{◌≡◌, ℕ, List, Option, Ok}
 use Rattle.cl_types.specs.declared.schedule.Schedule.{Schedule}
 use Rattle.flat_model.specs.Events.{account}
 use Rattle.flat_model.specs.Grammar.{schedule_of}
 use Rattle.flat_model.specs.Text.{Text}
-use Rattle.account_laws.specs.Schedules.{IsRisingFrom}
+use Rattle.account_laws.specs.ReadSchedules.{IsGood}
+use Rattle.account_laws.specs.Schedules.{AreTyped, IsRisingFrom}
 use Rattle.account_laws.proofs.AnswersKept.{law_of_parts}
 use Rattle.account_laws.proofs.OrderKept.{law_of_order}
+use Rattle.account_laws.proofs.ReadSchedules.{schedules_are_good}
 use Rattle.account_laws.proofs.RunKept.{law_of_runs}
+use Rattle.account_laws.proofs.Spelled.{rises_from_zero}
 use Rattle.account_laws.proofs.StandsKept.{law_of_stands}
 use Rattle.account_laws.proofs.TimesKept.{law_of_times}
-use Rattle.clio_cli.specs.Headline.{EndsInHeadline, Headline, LawOfHeadline, WroteHeadline}
+use Rattle.clio_cli.specs.Headline.{EndsInHeadline, Headline}
 use Rattle.clio_cli.specs.Run.{EndsWith, Outside}
 use Rattle.clio_cli.proofs.BuiltLemmas.{built_schedule_is}
-use Rattle.clio_cli.proofs.RisingLemmas.{events_rise}
 use Rattle.clio_cli.proofs.RunLemmas.{succeeded}
-use Rattle.clio_cli.proofs.TypedLemmas.{events_typed}
-
-rises_lower : (k l : ℕ) (events : List (ℕ × Event)) → k ≤ l → IsRisingFrom l events → IsRisingFrom k events
-rises_lower k l [] le rising = tt
-rises_lower k l (e ∷ events) le rising = (let first : l ≤ e.0 = rising.0 in omega (arith, le, first), rising.1)
 
 -- the account of a schedule that was read keeps the headline
 pub headline_law : (bytes : List ℕ) (s : Schedule) → schedule_of bytes ≡ Ok s → Headline s.config (account s.config s.events)
 headline_law bytes s is =
-    let rising : IsRisingFrom 0 s.events = rises_lower 0 1 s.events (omega arith) (events_rise bytes s is) in
-    let typed = events_typed bytes s is in
+    let good : IsGood s.config s.events = schedules_are_good bytes s is in
+    let rising : IsRisingFrom 0 s.events = rises_from_zero s.events good.rising in
+    let typed : AreTyped s.events = good.typed in
     let run = law_of_runs s.config s.events rising typed in
     record {
       run = run.run;

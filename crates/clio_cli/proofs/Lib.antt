@@ -7,9 +7,7 @@ pub mod Few
 pub mod ReplayLemmas
 pub mod WordLemmas
 pub mod ReadLemmas
-pub mod RisingLemmas
 pub mod BuiltLemmas
 pub mod VerdictLemmas
 pub mod RunLemmas
-pub mod TypedLemmas
 pub mod HeadlineLemmas

@@ -1,13 +1,13 @@
--- What a line that was read adds, and what every reading keeps.
-use Rattle.std.proofs.Common.{◌≡◌, ℕ, ◌+◌, Bool, true, false, List, [], ◌∷◌, Option, Some, None, Ok, Err, refl, ◌⊎◌, inl, inr, sym, subst, arith}
+-- What a line that was read adds, and what stands at the end.
+use Rattle.std.proofs.Common.{◌≡◌, ℕ, Bool, true, false, Option, Some, None, Ok, Err, refl, ◌⊎◌, inl, inr, sym, arith}
 use Rattle.std.specs.Prelude.{Result, if◌then◌else◌}
 use Rattle.cl_types.specs.declared.config.NodeConfig.{NodeConfig}
 use Rattle.cl_types.specs.declared.schedule.Schedule.{Schedule}
 use Rattle.cl_types.specs.declared.schedule.What.{What}
 use Rattle.cl_types.specs.declared.schedule.What.TheVariants.{ClientExpected}
 use Rattle.flat_model.specs.Faults.{first_fault}
-use Rattle.flat_model.specs.Grammar.{Fault, Reading, Said, at_end, judged_line, judged_said, line_read, nothing_read, place_faults, read_more, said_by_words, said_faults, schedule_from, schedule_of}
-use Rattle.flat_model.specs.Text.{Text, first_word, is_empty, is_skipped, lines_in, words_in}
+use Rattle.flat_model.specs.Grammar.{Fault, Reading, Said, at_end, judged_line, judged_said, line_read, place_faults, read_more, said_by_words, said_faults}
+use Rattle.flat_model.specs.Text.{Text, first_word, is_empty, is_skipped, words_in}
 
 pub no_value : {A B : Type 0} (fault : B) (x : A) → ◌≡◌ {A = Result A B} (Err fault) (Ok x) → ⊥
 no_value fault x is = grind arith
@@ -59,21 +59,3 @@ ends_with n r s is = step r.node refl is where
   step : (node : Option NodeConfig) → r.node ≡ node → at_end n r node ≡ Ok s → AtEnd r s
   step None given is = absurd (no_value _ s is)
   step (Some node) given is = by node given (is_empty r.clients) refl is
-
--- ---- what every reading keeps
-module _ (P : ℕ → Reading → Type 0) (skip : (n : ℕ) (r : Reading) → P n r → P (n + 1) r) (add : (n : ℕ) (r : Reading) (line : Text) (said : Said) → said_by_words (words_in line) ≡ Ok said → P n r → P (n + 1) (read_more r n line said)) where
-  keeps_line : (n : ℕ) (r : Reading) (line : Text) (more : Reading) → P n r → (more ≡ r) ⊎ Adds r n line more → P (n + 1) more
-  keeps_line n r line more p (inl same) = subst (P (n + 1)) (sym same) (skip n r p)
-  keeps_line n r line more p (inr adds) = subst (P (n + 1)) (sym adds.added) (add n r line adds.said adds.says p)
-
-  keeps_from : (lines : List Text) (n : ℕ) (r : Reading) (s : Schedule) → P n r → schedule_from r n lines ≡ Ok s → (m : ℕ) × (last : Reading) × P m last × AtEnd last s
-  keeps_from [] n r s p is = (n, r, p, ends_with n r s is)
-  keeps_from (line ∷ lines) n r s p is = step (line_read r n line) refl is (λ more. keeps_from lines (n + 1) more s) where
-    step : (o : Result Reading Fault) → line_read r n line ≡ o → ◌≡◌ {A = Result Schedule Fault} (elim o [ Err fault ↦ Err fault | Ok more ↦ schedule_from more (n + 1) lines ]) (Ok s)
-        → ((more : Reading) → P (n + 1) more → schedule_from more (n + 1) lines ≡ Ok s → (m : ℕ) × (last : Reading) × P m last × AtEnd last s) → (m : ℕ) × (last : Reading) × P m last × AtEnd last s
-    step (Err fault) read is rest = absurd (no_value fault s is)
-    step (Ok more) read is rest = rest more (keeps_line n r line more p (line_adds r n line more read)) is
-
-  -- the schedule that bytes spell is that of a reading that keeps it
-  pub keeps_all : (bytes : List ℕ) (s : Schedule) → P 1 nothing_read → schedule_of bytes ≡ Ok s → (m : ℕ) × (last : Reading) × P m last × AtEnd last s
-  keeps_all bytes s first is = keeps_from (lines_in bytes) 1 nothing_read s first is

@@ -1,6 +1,6 @@
 -- From how the program ends to when each status comes.
-use Rattle.std.proofs.Common.{◌≡◌, ◌⊎◌, inl, inr, ℕ, ◌+◌, ◌<◌, Bool, true, false, List, ◌++◌, length, length-append, Option, Some, None, refl, sym, ap, subst, ◌∙◌, arith}
-use Rattle.std.specs.Prelude.{◌==◌, IsTrue, if◌then◌else◌, option_map}
+use Rattle.std.proofs.Common.{◌≡◌, ◌⊎◌, inl, inr, ℕ, ◌+◌, Bool, true, false, List, ◌++◌, length, length-append, Option, Some, None, refl, sym, ap, subst, ◌∙◌, arith}
+use Rattle.std.specs.Prelude.{◌==◌, IsTrue, if◌then◌else◌}
 use Rattle.cl_outside.specs.Counts.{Rose}
 use Rattle.cl_outside.specs.Told.{Added, Took}
 use Rattle.cl_outside.specs.declared.loops.TheConstants.{INPUT_LIMIT}
@@ -8,13 +8,13 @@ use Rattle.cl_types.specs.declared.schedule.Schedule.{Schedule}
 use Rattle.flat_model.specs.Commands.{command_in}
 use Rattle.flat_model.specs.Text.{Text}
 use Rattle.flat_model.specs.Texts.{transcript}
-use Rattle.clio_cli.specs.Run.{Complete, Ends, EndsWith, Exactly, ExactlyOf, FaultsAreCounted, Gave, IsInput, IsTooMany, NoFault, Outside, Wants, WantsBy}
+use Rattle.clio_cli.specs.Run.{Complete, Ends, EndsWith, Exactly, ExactlyOf, FaultsAreCounted, Gave, IsInput, NoFault, Outside, Wants, WantsBy}
 use Rattle.clio_cli.specs.Status.{number_of}
-use Rattle.clio_cli.specs.Verdict.{Verdict, HasBadNode, IsRefused, IsReplayable, IsTooLong, bad_words, verdict}
+use Rattle.clio_cli.specs.Verdict.{Verdict, HasBadNode, IsRefused, IsReplayable, IsTooLong, verdict}
 use Rattle.clio_cli.specs.Words.{is_built_command}
 use Rattle.clio_cli.specs.declared.status.Status.{Status}
 use Rattle.clio_cli.specs.declared.status.Status.TheVariants as status
-use Rattle.clio_cli.proofs.VerdictLemmas.{IsFinal, closed_status, differs, is_closed, is_refused, is_replayed, is_too_long, long_verdict, no_words, refused_status, replayed, replayed_status, too_long_status, verdict_final}
+use Rattle.clio_cli.proofs.VerdictLemmas.{IsFinal, closed_status, differs, is_closed, is_refused, is_replayed, is_too_long, long_verdict, no_words, refused_status, replayed, too_long_status, verdict_final}
 
 -- ---- numbers of statuses
 abbrev status_at : ℕ → Status

@@ -1,5 +1,5 @@
 -- What the program does, as its source and its sink show it.
-use Rattle.std.specs.Prelude.{◌≡◌, ◌⊎◌, ℕ, ◌+◌, Bool, true, false, List, [], length, Some, IfSome, IsTrue}
+use Rattle.std.specs.Prelude.{◌≡◌, ◌⊎◌, ℕ, ◌+◌, Bool, true, false, List, [], length, IfSome, IsTrue}
 use Rattle.std.specs.declared.option.Option.{Option}
 use Rattle.cl_outside.specs.Counts.{Rose}
 use Rattle.cl_outside.specs.Loops.{WroteFront}

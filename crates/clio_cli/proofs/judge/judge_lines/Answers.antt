@@ -1,5 +1,5 @@
+use Rattle.account_laws.proofs.ReadSchedules.{schedules_are_good}
 use Rattle.clio_cli.proofs.BuiltLemmas.{built_schedule_is}
-use Rattle.clio_cli.proofs.RisingLemmas.{events_rise}
 use Rattle.clio_cli.proofs.judge.judge_lines.Goals as goal
 
 pub judge_schedule-requires-clause-built : goal.judge_schedule-requires-clause-built
@@ -7,4 +7,4 @@ judge_schedule-requires-clause-built c = (built_schedule_is c.args.bytes.now c.i
 
 pub judge_schedule-requires-clause-rising : goal.judge_schedule-requires-clause-rising
 judge_schedule-requires-clause-rising c =
-    events_rise c.args.bytes.now c.in-Ok.schedule (built_schedule_is c.args.bytes.now c.in-Ok.schedule c.in-Ok.ensures).0
+    (schedules_are_good c.args.bytes.now c.in-Ok.schedule (built_schedule_is c.args.bytes.now c.in-Ok.schedule c.in-Ok.ensures).0).rising
