@@ -1,20 +1,19 @@
 -- What the object's operations give in each case.
-use Rattle.std.proofs.Common.{◌≡◌, ◌≢◌, ℕ, ◌+◌, ◌-◌, ◌<◌, ◌≤◌, Bool, true, false, not, inl, inr, List, [], ◌∷◌, ◌++◌, length, append_assoc, drop, Option, Some, None, Ok, Err, refl, sym, ap, subst, ◌∙◌, arith}
-use Rattle.std.specs.Prelude.{leb}
+use Rattle.std.proofs.Common.{◌≡◌, ◌≢◌, ℕ, ◌+◌, ◌-◌, ◌<◌, ◌≤◌, true, not, inl, inr, List, [], ◌∷◌, ◌++◌, length, append_assoc, drop, Some, None, Ok, Err, refl, sym, ap, subst, ◌∙◌, arith}
 use Rattle.std.specs.Ordering.{eq_by_cmp}
 use Rattle.std.specs.FinMap.Entries.{find, put, where_key}
 use Rattle.std.proofs.lemmas.Bool.{le-leb, lt-leb}
 use Rattle.std.proofs.lemmas.List.{append-nil}
 use Rattle.cl_types.specs.declared.reply.Refusal.TheVariants.{ObjectFull, NoKey}
-use Rattle.flat_model.specs.Objects.{Object, Pairs, key_cmp, kv_put, kv_get, kv_delete}
+use Rattle.flat_model.specs.Objects.{Pairs, key_cmp, kv_put, kv_delete}
 use Rattle.flat_model.specs.Objects.Object.{KvObject}
 use Rattle.kv_offload.specs.declared.layout.TheConstants.{HEADS}
-use Rattle.kv_offload.specs.Found.{IsAbsent, IsFound, IsPassed, IsWalked, last_of}
-use Rattle.kv_offload.specs.Layout.{View, view_of, link_of, key_of, value_of, value_size, head_of, home_in}
-use Rattle.kv_offload.specs.Links.{has, IsLinked, behind, IsAtHome, IsTied}
-use Rattle.kv_offload.specs.Stored.{IsSound, IsStore, pairs_in}
-use Rattle.kv_offload.proofs.HeadLemmas.{head_below, head_some}
-use Rattle.kv_offload.proofs.LinkLemmas.{has_cases, has_mid, has_push, linked_end, last_more}
+use Rattle.kv_offload.specs.Found.{IsAbsent, IsFound, IsWalked, last_of}
+use Rattle.kv_offload.specs.Layout.{view_of, link_of, key_of, value_of, value_size, head_of, home_in}
+use Rattle.kv_offload.specs.Links.{has, behind, IsAtHome}
+use Rattle.kv_offload.specs.Stored.{IsStore, pairs_in}
+use Rattle.kv_offload.proofs.HeadLemmas.{head_below}
+use Rattle.kv_offload.proofs.LinkLemmas.{has_mid, has_push, linked_end, last_more}
 use Rattle.kv_offload.proofs.PairLemmas.{find-found, find-none}
 use Rattle.kv_offload.proofs.SoundLemmas.{Stands, stands}
 use Rattle.kv_offload.proofs.TiedLemmas.{linked_first, behind_rest}

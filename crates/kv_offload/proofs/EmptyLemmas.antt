@@ -1,13 +1,13 @@
 -- The store with no records: all slots in the chain of the free ones.
-use Rattle.std.proofs.Common.{◌≡◌, ◌≢◌, ℕ, zero, suc, ◌+◌, ◌-◌, ◌*◌, ◌<◌, ◌≤◌, ◌==◌, Bool, true, false, cond, eqb, ◌⊎◌, inl, inr, List, [], ◌∷◌, length, refl, sym, ap, subst, ◌∙◌, arith, if◌then◌else◌}
+use Rattle.std.proofs.Common.{◌≡◌, ℕ, zero, suc, ◌+◌, ◌-◌, ◌<◌, ◌≤◌, ◌==◌, true, inl, inr, List, [], ◌∷◌, length, refl, sym, ap, ◌∙◌, arith, if◌then◌else◌}
 use Rattle.std.specs.Prelude.{nat_lt}
 use Rattle.std.proofs.lemmas.Bool.{cases_eq, cases_lt, eq-eqb, ne_eqb}
 use Rattle.std.proofs.lemmas.Bool.Decides.{nat_tests}
 use Rattle.kv_offload.specs.declared.layout.TheConstants.{HEADS}
-use Rattle.kv_offload.specs.Layout.{View, view_of, link_of, count_of, key_of, value_size, head_of, home_in, next_free}
-use Rattle.kv_offload.specs.Links.{has, IsLinked, behind, IsAtHome, IsTied}
-use Rattle.kv_offload.specs.Stored.{HasPages, IsSound, IsStore, pairs_of, pairs_in}
-use Rattle.kv_offload.proofs.LinkLemmas.{has_cases, has_more, has_head}
+use Rattle.kv_offload.specs.Layout.{view_of, link_of, count_of, key_of, value_size, head_of, home_in, next_free}
+use Rattle.kv_offload.specs.Links.{has, IsLinked, IsAtHome, IsTied}
+use Rattle.kv_offload.specs.Stored.{HasPages, IsStore, pairs_in}
+use Rattle.kv_offload.proofs.LinkLemmas.{has_cases, has_more}
 use Rattle.kv_offload.proofs.PairLemmas.{pairs_none}
 use Rattle.kv_offload.proofs.SoundLemmas.{home_below}
 use Rattle.kv_offload.proofs.TiedLemmas.{behind_is, tied_behind}

@@ -1,5 +1,5 @@
 -- The chain of a key.
-use Rattle.std.proofs.Common.{◌≡◌, ◌≢◌, ℕ, ◌+◌, ◌*◌, ◌%◌, ◌<◌, ◌≤◌, List, [], ◌∷◌, length, refl, sym, ap, ◌∙◌, arith}
+use Rattle.std.proofs.Common.{◌≡◌, ◌≢◌, ℕ, ◌+◌, ◌*◌, ◌%◌, ◌<◌, ◌≤◌, List, [], ◌∷◌, length, refl, sym, ap, arith}
 use Rattle.kv_offload.specs.declared.layout.TheConstants.{HEADS}
 use Rattle.kv_offload.specs.Layout.{hash_on, hash_of, head_of}
 

@@ -1,8 +1,6 @@
 -- Where the pieces of a store stand, and what a write leaves of them.
-use Rattle.std.proofs.Common.{◌≡◌, ◌≢◌, ℕ, zero, suc, ◌+◌, ◌-◌, ◌*◌, ◌/◌, ◌%◌, ◌<◌, ◌≤◌, ◌^◌, Bool, true, false, eqb, ◌⊎◌, inl, inr, List, [], ◌∷◌, length, take, drop, get_or, refl, sym, ap, subst, ◌∙◌, arith}
-use Rattle.std.specs.Prelude.{nat_lt}
-use Rattle.std.specs.Int.{from_be_bytes, to_be_bytes, w16}
-use Rattle.std.proofs.lemmas.Bool.{cases_Bool, cases_eq, cases_lt, ltb-true}
+use Rattle.std.proofs.Common.{◌≡◌, ◌≢◌, ℕ, zero, suc, ◌+◌, ◌-◌, ◌*◌, ◌/◌, ◌<◌, ◌≤◌, ◌^◌, ◌⊎◌, inl, inr, List, [], ◌∷◌, length, take, drop, refl, sym, ap, subst, ◌∙◌, arith}
+use Rattle.std.proofs.lemmas.Bool.{cases_eq, cases_lt}
 use Rattle.std.proofs.lemmas.Bool.Decides.{nat_tests}
 use Rattle.std.proofs.lemmas.List.{drop-drop, drop-take}
 use Rattle.cl_types.specs.Bytes.{bytes_at, with_bytes}
@@ -10,7 +8,7 @@ use Rattle.cl_types.specs.Spaces.{IsInOnePage}
 use Rattle.kv_offload.specs.declared.layout.TheConstants.{HEADS}
 use Rattle.kv_offload.specs.Layout.{slot_place, link_place}
 use Rattle.kv_offload.specs.Stored.{HasPages}
-use Rattle.kv_offload.proofs.Pieces.{length_with, piece_kept_before, piece_kept_behind, piece_put}
+use Rattle.kv_offload.proofs.Pieces.{length_with, piece_kept_before, piece_kept_behind}
 
 -- ---- places
 -- a slot lies behind the first page

@@ -1,14 +1,11 @@
 -- What a store's bytes say after a write.
-use Rattle.std.proofs.Common.{◌≡◌, ◌≢◌, ℕ, zero, suc, ◌+◌, ◌-◌, ◌*◌, ◌/◌, ◌%◌, ◌<◌, ◌≤◌, ◌^◌, true, false, eqb, ◌⊎◌, inl, inr, List, [], ◌∷◌, length, take, get_or, refl, sym, ap, subst, ◌∙◌, arith}
+use Rattle.std.proofs.Common.{◌≡◌, ◌≢◌, ℕ, ◌+◌, ◌*◌, ◌/◌, ◌%◌, ◌<◌, ◌≤◌, ◌^◌, inl, inr, List, [], ◌∷◌, length, take, get_or, refl, sym, ap, ◌∙◌, arith}
 use Rattle.std.specs.Int.{from_be_bytes, to_be_bytes, w16}
 use Rattle.std.proofs.lemmas.Bool.{cases_eq, eq-eqb, ne_eqb}
-use Rattle.std.proofs.lemmas.List.{take_all}
 use Rattle.std.proofs.lemmas.Nat.{from_be_bytes-to_be_bytes_2}
 use Rattle.cl_types.specs.Bytes.{bytes_at, with_bytes}
 use Rattle.kv_offload.specs.declared.layout.TheConstants.{HEADS, KEY_AT, VALUE_AT, VALUE_BYTES}
 use Rattle.kv_offload.specs.Layout.{View, Says, front_of, slot_place, link_place, link_of, count_of, key_size, value_size, key_of, value_of, but_at, with_link, with_slot, with_count}
-use Rattle.kv_offload.specs.Stored.{HasPages}
-use Rattle.kv_offload.proofs.LinkLemmas.{split_eq}
 use Rattle.kv_offload.proofs.Pieces.{piece_put}
 use Rattle.kv_offload.proofs.PlaceLemmas.{AreApart, Leaves, piece_of, slots_apart, links_apart, record_apart, link_apart, count_apart, link_of_slot, slot_above, leaves_put, leaves_then, leaves_wider}
 

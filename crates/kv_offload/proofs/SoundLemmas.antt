@@ -1,9 +1,9 @@
 -- A store before and after a record is put into it, replaced or taken out.
-use Rattle.std.proofs.Common.{◌≡◌, ◌≢◌, ℕ, zero, suc, ◌+◌, ◌-◌, ◌<◌, ◌≤◌, true, false, eqb, not, ◌⊎◌, inl, inr, List, [], ◌∷◌, ◌++◌, length, drop, Option, Some, None, T, refl, sym, ap, subst, ◌∙◌, arith}
+use Rattle.std.proofs.Common.{◌≡◌, ◌≢◌, ℕ, suc, ◌+◌, ◌-◌, ◌<◌, ◌≤◌, true, false, not, ◌⊎◌, inl, inr, List, [], ◌∷◌, ◌++◌, length, drop, Some, refl, sym, ap, subst, ◌∙◌, arith}
 use Rattle.std.specs.Ordering.{eq_by_cmp}
-use Rattle.std.specs.FinMap.Entries.{find, put, where_key, is_sorted}
-use Rattle.std.proofs.lemmas.Bool.{cases_eq, eq-eqb, ne_eqb}
-use Rattle.flat_model.specs.Objects.{Pairs, key_cmp}
+use Rattle.std.specs.FinMap.Entries.{find, put, where_key}
+use Rattle.std.proofs.lemmas.Bool.{cases_eq}
+use Rattle.flat_model.specs.Objects.{key_cmp}
 use Rattle.kv_offload.specs.declared.layout.TheConstants.{HEADS}
 use Rattle.kv_offload.specs.Found.{last_of}
 use Rattle.kv_offload.specs.Layout.{View, Says, view_of, but_at, with_link, with_slot, with_count, head_of, home_in}

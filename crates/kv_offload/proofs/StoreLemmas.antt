@@ -1,17 +1,16 @@
 -- A store after the writes of a call.
-use Rattle.std.proofs.Common.{◌≡◌, ◌≢◌, ℕ, ◌+◌, ◌-◌, ◌<◌, ◌≤◌, true, false, not, eqb, ◌⊎◌, inl, inr, List, [], ◌∷◌, length, take, Some, None, Ok, Err, Result, refl, sym, ap, subst, ◌∙◌, arith}
+use Rattle.std.proofs.Common.{◌≡◌, ◌≢◌, ℕ, ◌+◌, ◌-◌, ◌<◌, ◌≤◌, not, List, [], length, take, Some, Ok, Err, sym, ap, subst, ◌∙◌, arith}
 use Rattle.std.specs.Ordering.{eq_by_cmp}
 use Rattle.std.specs.FinMap.Entries.{find, put, where_key}
-use Rattle.cl_types.specs.declared.reply.Refusal.{Refusal}
 use Rattle.cl_types.specs.declared.reply.Refusal.TheVariants.{ObjectFull, NoKey}
-use Rattle.flat_model.specs.Objects.{Object, Pairs, Given, key_cmp, kv_put, kv_get, kv_delete}
+use Rattle.flat_model.specs.Objects.{Pairs, key_cmp, kv_put, kv_get, kv_delete}
 use Rattle.flat_model.specs.Objects.Object.{KvObject}
 use Rattle.kv_offload.specs.declared.kv.Found.{Found}
 use Rattle.kv_offload.specs.declared.layout.TheConstants.{HEADS}
 use Rattle.kv_offload.specs.Found.{IsAbsent, IsFound}
-use Rattle.kv_offload.specs.Layout.{View, Says, view_of, link_of, count_of, key_of, value_of, value_size, with_link, with_slot, with_count, head_of}
-use Rattle.kv_offload.specs.Links.{IsLinked, behind}
-use Rattle.kv_offload.specs.Stored.{HasPages, IsSound, IsStore, pairs_of, pairs_in, object_in}
+use Rattle.kv_offload.specs.Layout.{View, Says, view_of, link_of, count_of, key_of, value_of, with_link, with_slot, with_count, head_of}
+use Rattle.kv_offload.specs.Links.{behind}
+use Rattle.kv_offload.specs.Stored.{HasPages, IsStore, pairs_in, object_in}
 use Rattle.kv_offload.proofs.CallLemmas.{put_kept, put_new, put_full, delete_there, delete_none, absent_find, slot_find}
 use Rattle.kv_offload.proofs.LinkLemmas.{linked_end}
 use Rattle.kv_offload.proofs.PairLemmas.{is_sorted-pairs, length-pairs_without}

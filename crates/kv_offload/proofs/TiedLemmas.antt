@@ -1,12 +1,12 @@
 -- The chains of a store when a node joins one, or leaves one.
-use Rattle.std.proofs.Common.{◌≡◌, ◌≢◌, ℕ, zero, suc, ◌+◌, ◌-◌, ◌<◌, ◌≤◌, true, false, eqb, ◌||◌, ◌⊎◌, inl, inr, List, [], ◌∷◌, ◌++◌, length, length-append, drop, refl, sym, ap, subst, ◌∙◌, arith}
+use Rattle.std.proofs.Common.{◌≡◌, ◌≢◌, ℕ, ◌+◌, ◌<◌, ◌≤◌, true, eqb, ◌||◌, ◌⊎◌, inl, inr, List, [], ◌∷◌, ◌++◌, length, length-append, drop, refl, sym, ap, subst, ◌∙◌, arith}
 use Rattle.std.specs.List.{list_any}
 use Rattle.std.proofs.lemmas.Bool.{cases_eq}
 use Rattle.std.proofs.lemmas.Map.Steps.{length-le_from_distinct_below}
 use Rattle.kv_offload.specs.declared.layout.TheConstants.{HEADS}
 use Rattle.kv_offload.specs.Found.{last_of}
-use Rattle.kv_offload.specs.Links.{has, IsLinked, chain, behind, IsAtHome, IsTied}
-use Rattle.kv_offload.proofs.LinkLemmas.{has_head, has_more, has_cases, has_mid, has_seen, last_in, has_others, has_before, linked_once, linked_apart, linked_some, IsDistinct-linked, chain_is, linked_end, linked_append, relinked, unlinked, gone}
+use Rattle.kv_offload.specs.Links.{has, IsLinked, behind, IsAtHome, IsTied}
+use Rattle.kv_offload.proofs.LinkLemmas.{has_head, has_more, has_cases, has_mid, last_in, has_others, has_before, linked_apart, IsDistinct-linked, chain_is, linked_append, relinked, unlinked, gone}
 
 has-list_any : (xs : List ℕ) (q : ℕ) → list_any (eqb q) xs ≡ has xs q
 has-list_any [] q = refl

@@ -1,12 +1,12 @@
 -- What is read at the front of a slot.
-use Rattle.std.proofs.Common.{◌≡◌, ℕ, ◌+◌, ◌*◌, ◌<◌, ◌≤◌, ◌↔◌, Bool, IsTrue, true, false, List, [], ◌∷◌, length, take, get_or, refl, sym, ap, subst, ◌∙◌, arith}
+use Rattle.std.proofs.Common.{◌≡◌, ℕ, ◌+◌, ◌<◌, ◌≤◌, ◌↔◌, Bool, IsTrue, List, [], ◌∷◌, length, take, get_or, refl, sym, ap, subst, ◌∙◌, arith}
 use Rattle.std.specs.Prelude.{slice_index}
 use Rattle.std.specs.Int.{from_be_bytes, w16}
-use Rattle.std.proofs.lemmas.List.{length-take, length-drop, get_or-take}
+use Rattle.std.proofs.lemmas.List.{length-take, length-drop}
 use Rattle.cl_types.specs.Bytes.{bytes_at, with_bytes}
 use Rattle.cl_types.specs.Spaces.{IsInOnePage}
 use Rattle.kv_offload.specs.declared.layout.TheConstants.{HEADS, KEY_AT, VALUE_AT}
-use Rattle.kv_offload.specs.Layout.{number_at, slot_place, link_place, link_of, key_size, value_size, key_of, value_of}
+use Rattle.kv_offload.specs.Layout.{number_at, slot_place, link_of, key_size, value_size, key_of, value_of}
 use Rattle.kv_offload.specs.Stored.{HasPages}
 use Rattle.kv_offload.proofs.PlaceLemmas.{Leaves, slot_in, link_of_slot, piece_of, leaves_put, pages_left}
 use Rattle.kv_offload.proofs.SaysLemmas.{piece_of_front}

@@ -1,4 +1,4 @@
-use Rattle.std.proofs.Common.{length, ap, ◌∙◌}
+use Rattle.std.proofs.Common.{ap, ◌∙◌}
 use Rattle.std.proofs.lemmas.List.{drop_all}
 use Rattle.kv_offload.specs.Layout.{hash_on}
 use Rattle.kv_offload.proofs.HeadLemmas.{head_is}

@@ -1,4 +1,4 @@
-use Rattle.std.proofs.Common.{ℕ, List, ◌≡◌, ◌≤◌, ◌+◌, sym, ap, subst, arith, ◌∙◌}
+use Rattle.std.proofs.Common.{ℕ, List, ◌≡◌, ap, arith, ◌∙◌}
 use Rattle.kv_offload.specs.Layout.{count_of, link_of}
 use Rattle.kv_offload.proofs.HeadLemmas.{key_some}
 use Rattle.kv_offload.proofs.SoundLemmas.{free_home}

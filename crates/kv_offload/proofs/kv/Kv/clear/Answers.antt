@@ -1,5 +1,4 @@
 use Rattle.std.proofs.Common.{[], length, refl, ap, arith}
-use Rattle.kv_offload.specs.Layout.{slot_place}
 use Rattle.kv_offload.proofs.PlaceLemmas.{put_same, page_same, pages_left}
 use Rattle.kv_offload.proofs.SaysLemmas.{FilledSlot, says_filled, cleared}
 use Rattle.kv_offload.proofs.VisitLemmas.{slot_start_in, slot_whole}

@@ -1,4 +1,4 @@
-use Rattle.std.proofs.Common.{ℕ, arith, ◌∙◌}
+use Rattle.std.proofs.Common.{arith, ◌∙◌}
 use Rattle.kv_offload.proofs.StepLemmas.{head_cleared, count_cleared, count_links}
 use Rattle.kv_offload.proofs.kv.Kv.clear_heads.Goals as goal
 

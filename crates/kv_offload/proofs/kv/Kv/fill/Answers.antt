@@ -1,5 +1,4 @@
-use Rattle.std.proofs.Common.{◌+◌, ◌≡◌, length, refl, ap, arith, ℕ}
-use Rattle.kv_offload.specs.Layout.{slot_place}
+use Rattle.std.proofs.Common.{◌+◌, length, refl, ap, arith, ℕ}
 use Rattle.kv_offload.proofs.PlaceLemmas.{put_same, page_same, pages_left, slot_below}
 use Rattle.kv_offload.proofs.SaysLemmas.{FilledSlot, says_filled, filled}
 use Rattle.kv_offload.proofs.VisitLemmas.{slot_start_in, slot_part_in, slot_whole, written_pages}

@@ -1,6 +1,6 @@
-use Rattle.std.proofs.Common.{List, ℕ, ◌≡◌, ◌-◌, ◌≤◌, length, sym, ap, arith, ◌∙◌}
+use Rattle.std.proofs.Common.{List, ℕ, ◌-◌, length, sym, ap, arith, ◌∙◌}
 use Rattle.kv_offload.specs.declared.layout.TheConstants.{HEADS}
-use Rattle.kv_offload.specs.Layout.{key_of, value_size, link_of}
+use Rattle.kv_offload.specs.Layout.{key_of, value_size}
 use Rattle.kv_offload.proofs.CallLemmas.{walk_node, walk_next, walk_found, walk_behind, walk_reads, walk_ends}
 use Rattle.kv_offload.proofs.HeadLemmas.{key_some}
 use Rattle.kv_offload.proofs.kv.Kv.find.Goals as goal

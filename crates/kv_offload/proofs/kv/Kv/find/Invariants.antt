@@ -1,4 +1,4 @@
-use Rattle.std.proofs.Common.{◌≡◌, ℕ, ◌<◌, length}
+use Rattle.std.proofs.Common.{◌≡◌, length}
 use Rattle.kv_offload.specs.Layout.{link_of}
 use Rattle.kv_offload.specs.Links.{behind}
 use Rattle.kv_offload.specs.Found.{IsWalked}

@@ -1,6 +1,6 @@
-use Rattle.std.proofs.Common.{ℕ, List, ◌≡◌, subst, arith, ◌∙◌}
+use Rattle.std.proofs.Common.{◌≡◌, subst, arith, ◌∙◌}
 use Rattle.kv_offload.proofs.EmptyLemmas.{AreFree, free_store, free_pairs}
-use Rattle.kv_offload.proofs.StepLemmas.{more_free, none_free}
+use Rattle.kv_offload.proofs.StepLemmas.{more_free}
 use Rattle.kv_offload.proofs.kv.Kv.free_slots.Goals as goal
 
 pub loop-slot-preserved : goal.loop-slot-preserved

@@ -1,4 +1,4 @@
-use Rattle.std.proofs.Common.{◌≡◌, ◌<◌}
+use Rattle.std.proofs.Common.{◌≡◌}
 use Rattle.kv_offload.specs.Stored.{HasPages}
 use Rattle.kv_offload.proofs.EmptyLemmas.{AreFree}
 use Rattle.kv_offload.proofs.kv.Kv.free_slots.Given as goal

@@ -1,5 +1,4 @@
-use Rattle.std.proofs.Common.{ℕ, length, ap, subst, sym, ◌∙◌}
-use Rattle.cl_types.specs.Spaces.{IsInOnePage}
+use Rattle.std.proofs.Common.{ℕ, ap, ◌∙◌}
 use Rattle.kv_offload.specs.Layout.{link_of, number_at}
 use Rattle.kv_offload.proofs.PlaceLemmas.{link_in}
 use Rattle.kv_offload.proofs.kv.Kv.link.Goals as goal

@@ -1,4 +1,4 @@
-use Rattle.std.proofs.Common.{arith, ap, ◌∙◌}
+use Rattle.std.proofs.Common.{arith, ◌∙◌}
 use Rattle.kv_offload.proofs.PlaceLemmas.{slot_below}
 use Rattle.kv_offload.proofs.VisitLemmas.{slot_part_in, value_read}
 use Rattle.kv_offload.proofs.kv.Kv.read_value.Goals as goal

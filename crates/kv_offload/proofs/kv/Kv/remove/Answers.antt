@@ -1,4 +1,4 @@
-use Rattle.std.proofs.Common.{ℕ, List, ◌≡◌, ◌≤◌, ◌+◌, sym, ap, subst, arith, ◌∙◌}
+use Rattle.std.proofs.Common.{◌≡◌, arith, ◌∙◌}
 use Rattle.kv_offload.specs.Layout.{count_of}
 use Rattle.kv_offload.proofs.HeadLemmas.{key_some}
 use Rattle.kv_offload.proofs.StoreLemmas.{Deletes, removed_store, removed_given, removed_count, found_counted, counted_below}

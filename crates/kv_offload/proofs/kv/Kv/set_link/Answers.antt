@@ -1,4 +1,4 @@
-use Rattle.std.proofs.Common.{length, refl, ap, ◌∙◌}
+use Rattle.std.proofs.Common.{length, ap}
 use Rattle.kv_offload.specs.Layout.{link_place}
 use Rattle.kv_offload.proofs.PlaceLemmas.{link_in, link_whole, put_same, page_same}
 use Rattle.kv_offload.proofs.SaysLemmas.{says_linked}

@@ -1,5 +1,4 @@
-use Rattle.std.proofs.Common.{arith, ap, ◌∙◌}
-use Rattle.kv_offload.specs.Layout.{number_at}
+use Rattle.std.proofs.Common.{arith, ◌∙◌}
 use Rattle.kv_offload.proofs.VisitLemmas.{slot_start_in, slot_whole, has_key_is, next_is, value_len_is}
 use Rattle.kv_offload.proofs.kv.Kv.visit.Goals as goal
 
