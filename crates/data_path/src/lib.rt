@@ -1,0 +1,18 @@
+//! The pages of a node with their bytes, and the steps of the flat machine on them.
+//!
+//! A contract sees a `PageStore` through `memory_of`, a flat state over all pages: those that processes mapped, and
+//! those of the offloads in spaces of their own. So the flat machine's `read`, `write`, `alloc` and `free` say what a
+//! call answers and what it leaves. `flat_of` is the flat state of a node with such a memory.
+//!
+//! A store is whole where its parts fit, as `IsWhole` lists, and ready where its pool is. Each call needs a whole and
+//! ready store and leaves one. A call on a page's bytes reads at most one bucket, and none where the cache has the
+//! page's entry, and takes at most one page. Only `PageStore::create` takes memory.
+#![tactic(auto)]
+
+mod need;
+mod part;
+mod range;
+mod store;
+
+pub use need::Need;
+pub use store::PageStore;
