@@ -1,0 +1,4 @@
+pub mod Keyed
+pub mod Pages
+pub mod Accesses
+pub mod Framing

@@ -15,4 +15,4 @@ mod range;
 mod store;
 
 pub use need::Need;
-pub use store::PageStore;
+pub use store::{PageStore, offset_of, page_of};

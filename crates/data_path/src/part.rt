@@ -1,10 +1,11 @@
 //! A Read and a Write of a part, and bytes put into a page.
 
-ghost use Rattle.std.specs.Prelude.{◌≡◌, ◌+◌, ◌≤◌, length, Some, IsSome, IfSome, OnErr};
+ghost use Rattle.std.specs.Prelude.{◌≡◌, ◌+◌, ◌<◌, ◌≤◌, length, slice_set, Some, IsSome, IfSome, OnErr};
 ghost use Rattle.cl_types.specs.declared.limits.TheConstants.{PAGE_BYTES};
 ghost use Rattle.cl_types.specs.declared.reply.Reply.TheVariants.{Nothing, Got};
 ghost use Rattle.cl_types.specs.Bytes.{with_bytes};
 ghost use Rattle.cl_types.specs.Places.{Place};
+ghost use Rattle.page_arena.specs.Arena.{page_at as arena_page};
 ghost use Rattle.page_pool.specs.PoolPages.{IsReady, IsTaken};
 ghost use Rattle.range_alloc.specs.Ranges.{frame_at};
 ghost use Rattle.translate_cache.specs.Cached.{entry_of as cached_entry};
@@ -97,6 +98,18 @@ impl PageStore {
             ≡ written (memory_of self.old) place.0 place.1 page (with_bytes at bytes.now (bytes_of page))) }
         ensures rest { self.new ≡ record self.old { arena = self.new.arena } }
         ensures whole { IsWhole self.new }
+    {
+        self.set_bytes(frame, at, bytes);
+    }
+
+    // Puts bytes into a page of the arena.
+    fn set_bytes(&mut self, frame: PageNo, at: usize, bytes: &[u8])
+        requires inside { frame.0 < length self.old.arena }
+        requires within { at + length bytes.now ≤ PAGE_BYTES }
+        ensures bytes { self.new ≡ record self.old {
+          arena = slice_set self.old.arena frame.0 (with_bytes at bytes.now (arena_page self.old.arena frame.0));
+        } }
+        ensures size { length (arena_page self.old.arena frame.0) ≡ PAGE_BYTES }
     {
         let page = self.arena.page_mut(frame.0);
         page[at..at + bytes.len()].copy_from_slice(bytes);

@@ -37,7 +37,7 @@ pub struct PageStore {
     pub spaces: PageCounts,
 }
 
-/// The number of an address's page.
+/// The number of a good address's page.
 pub fn page_of(addr: Addr) -> Vpn
     requires { addr.0 < ADDRESS_END }
     ensures { result.0 ≡ page_of addr }
