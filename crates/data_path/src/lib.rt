@@ -11,7 +11,6 @@
 
 mod need;
 mod part;
-mod range;
 mod store;
 
 pub use need::Need;
