@@ -11,6 +11,7 @@
 
 mod need;
 mod part;
+mod range;
 mod store;
 
 pub use need::Need;
