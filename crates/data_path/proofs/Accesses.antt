@@ -17,7 +17,7 @@ use Rattle.flat_model.specs.Pages.{page_of}
 use Rattle.flat_model.specs.State.{FlatState, Page, page_at, bytes_of}
 use Rattle.flat_model.specs.Step.{Outcome, on_page, if_pages_last, is_out_of_pages, written}
 use Rattle.data_path.specs.declared.store.PageStore.{PageStore}
-use Rattle.data_path.specs.Store.{memory_of, page_in, IsCached, IsWhole}
+use Rattle.data_path.specs.Store.{memory_of, page_in, IsCached, IsFit, IsWhole}
 use Rattle.data_path.specs.Access.{IsDenied, IsFound, IsFramed, IsOpen}
 use Rattle.data_path.proofs.Keyed.{put_put}
 use Rattle.data_path.proofs.Pages.{find-pages_in}
@@ -49,7 +49,9 @@ is_open s t cache space page addr may pte frame is found was =
       page = page_in s.arena pte;
       passes = λ go. found.passes (λ page. if_pages_last (memory_of s) (is_out_of_pages (memory_of s) page) (go page)) ∙ ap (λ b. if_pages_last (memory_of s) b (go (page_in s.arena pte))) f.room;
       entry = record pte { frame = Some frame };
-      found = f.entry;
+      found =
+          let at : Place = (space, page_of addr) in
+          ap (λ (table : PageMap). entry_of table at) f.table ∙ find-put place_cmp place_total at at (record pte { frame = Some frame }) s.table.entries ∙ rw (same_place-self at) refl;
       framed = refl;
       memory = f.memory;
       bytes = f.bytes;
@@ -70,19 +72,20 @@ fresh_piece at n within = piece at n 4096 within
     piece at n m within = sym (take-replicate n (m - at) 0 (omega (arith, within))) ∙ ap (take n) (sym (drop-replicate at m 0))
 
 -- the cache changed
-pub whole_cached : (s : PageStore) (cache : Cached) → IsWhole s → IsCached cache s.table → IsWhole (record s { cache = cache })
-whole_cached s cache w cached = record {
+pub fit_cached : (s : PageStore) (cache : Cached) → IsFit s → IsCached cache s.table → IsFit (record s { cache = cache })
+fit_cached s cache w cached = record {
   valid = w.valid;
   ranges = w.ranges;
   taken = w.taken;
   named = w.named;
-  keys = w.keys;
-  held = w.held;
   arena = w.arena;
   sized = w.sized;
   zero = w.zero;
   cached = cached;
 }
+
+pub whole_cached : (s : PageStore) (cache : Cached) → IsWhole s → IsCached cache s.table → IsWhole (record s { cache = cache })
+whole_cached s cache whole cached = record { fit = fit_cached s cache whole.fit cached; keys = whole.keys; held = whole.held }
 
 -- ---- a page that is fresh no more, and then changed
 pub changed_open : (m mid new : FlatState) (space page : ℕ) (p : Page) (at : ℕ) (bytes : List ℕ) → T (is_sorted place_cmp m.map) → mid ≡ written m space page p (bytes_of p)

@@ -27,7 +27,7 @@ use Rattle.flat_model.specs.Rows.{keys}
 use Rattle.flat_model.specs.State.{Page, page_at, used, bytes_of}
 use Rattle.flat_model.specs.Step.{written, is_out_of_pages}
 use Rattle.data_path.specs.declared.store.PageStore.{PageStore}
-use Rattle.data_path.specs.Store.{page_in, pages_in, spans_in, backed, memory_of, IsCached, IsWhole}
+use Rattle.data_path.specs.Store.{page_in, pages_in, spans_in, backed, memory_of, IsCached, IsFit, IsWhole}
 use Rattle.data_path.specs.Access.{IsFramed, IsOpen}
 use Rattle.data_path.proofs.Accesses.{changed_open, page_there, bytes_framed, bytes_fresh}
 use Rattle.data_path.proofs.Keyed.{around, put_same}
@@ -77,7 +77,7 @@ length-with_bytes at bytes old within =
     length-append (take at old ++ bytes) (drop (at + length bytes) old)
     ∙ omega (arith, within, length-append (take at old) bytes, length-take at old, length-drop (at + length bytes) old)
 
-module _ (s : PageStore) (place : Place) (pte : Pte) (frame : PageNo) (whole : IsWhole s) (there : entry_of s.table place ≡ Some pte) (framed : pte.frame ≡ Some frame) where
+module _ (s : PageStore) (place : Place) (pte : Pte) (frame : PageNo) (whole : IsFit s) (there : entry_of s.table place ≡ Some pte) (framed : pte.frame ≡ Some frame) where
   -- one page has changed
   wrote : (bytes : List ℕ) → memory_of (record s { arena = set s.arena frame.0 bytes }) ≡ written (memory_of s) place.0 place.1 (page_in s.arena pte) bytes
   wrote bytes =
@@ -108,7 +108,7 @@ module _ (s : PageStore) (place : Place) (pte : Pte) (frame : PageNo) (whole : I
           ne (whole.taken.once q place frame.0 (frame_named s q x f is has_it ∙ ap (λ (n : ℕ). Some n) e) (frame_named s place pte frame there framed)))))
 
 -- the page of an entry that names the frame, where there is one
-pub wrote_named : (s : PageStore) (frame : PageNo) (at : ℕ) (bytes : List ℕ) (place : Place) → IsWhole s → frame_at s.table place ≡ Some frame.0
+pub wrote_named : (s : PageStore) (frame : PageNo) (at : ℕ) (bytes : List ℕ) (place : Place) → IsFit s → frame_at s.table place ≡ Some frame.0
     → IfSome (page_at (memory_of s) place.0 place.1) (λ page.
     memory_of (record s { arena = set s.arena frame.0 (with_bytes at bytes (arena_page s.arena frame.0)) }) ≡ written (memory_of s) place.0 place.1 page (with_bytes at bytes (bytes_of page)))
 wrote_named s frame at bytes place whole named = by_entry (entry_of s.table place) refl
@@ -128,21 +128,20 @@ wrote_named s frame at bytes place whole named = by_entry (entry_of s.table plac
         let ws = with_bytes at bytes (arena_page s.arena frame.0) in
         let change = wrote s place pte frame whole is framed ws ∙ ap (λ b. written (memory_of s) place.0 place.1 (page_in s.arena pte) (with_bytes at bytes b)) (sym (bytes_framed s.arena pte frame framed)) in
         subst (λ (o : Option Page). IfSome o (λ page. memory_of (record s { arena = set s.arena frame.0 (with_bytes at bytes (arena_page s.arena frame.0)) }) ≡ written (memory_of s) place.0 place.1 page (with_bytes at bytes (bytes_of page))))
-            (sym (page_there s place.0 place.1 (Some pte) is)) change
+        (sym (page_there s place.0 place.1 (Some pte) is)) change
 
 -- a taken frame's bytes changed
 pub whole_wrote : (s : PageStore) (frame : PageNo) (at : ℕ) (bytes : List ℕ) → IsWhole s → IsTaken s.pool frame.0 → length (arena_page s.arena frame.0) ≡ 4096 → at + length bytes ≤ 4096
     → IsWhole (record s { arena = set s.arena frame.0 (with_bytes at bytes (arena_page s.arena frame.0)) })
-whole_wrote s frame at bytes w taken size within =
+whole_wrote s frame at bytes whole taken size within =
+    let w = whole.fit in
     let ws = with_bytes at bytes (arena_page s.arena frame.0) in
     let inside : frame.0 < length s.arena = omega (arith, taken.in_range, w.arena) in
-    record {
+    let fit : IsFit (record s { arena = set s.arena frame.0 ws }) = record {
       valid = w.valid;
       ranges = w.ranges;
       taken = w.taken;
       named = w.named;
-      keys = w.keys;
-      held = w.held;
       arena = length-set s.arena frame.0 ws ∙ w.arena;
       sized = λ place f named. elim (cases_eq f frame.0) [
         | inl t ↦ rw (ap (arena_page (set s.arena frame.0 ws)) t ∙ get_or-set_same s.arena frame.0 ws [] inside) (length-with_bytes at bytes (arena_page s.arena frame.0) (omega (arith, size, within)) ∙ size)
@@ -153,10 +152,11 @@ whole_wrote s frame at bytes w taken size within =
         | inr f ↦ rw (get_or-set_other s.arena frame.0 p ws [] f) (w.zero p h)
       ];
       cached = w.cached;
-    }
+    } in
+    record { fit = fit; keys = whole.keys; held = whole.held }
 
 -- ---- a page that has a frame
-pub framed_already : (s : PageStore) (place : Place) (pte : Pte) (frame : PageNo) → IsWhole s → entry_of s.table place ≡ Some pte → pte.frame ≡ Some frame → IsFramed s s place pte frame
+pub framed_already : (s : PageStore) (place : Place) (pte : Pte) (frame : PageNo) → IsFit s → entry_of s.table place ≡ Some pte → pte.frame ≡ Some frame → IsFramed s s place pte frame
 framed_already s place pte frame whole there framed =
     let page = page_in s.arena pte in
     let bytes : bytes_of page ≡ arena_page s.arena frame.0 = bytes_framed s.arena pte frame framed in
@@ -168,13 +168,13 @@ framed_already s place pte frame whole there framed =
     λ i. put place_cmp place (record page { bytes = sym some i }) (pages_in s.arena s.table.entries) in
     record {
       room = ap (λ (f : Option PageNo). is_out_of_pages (memory_of s) (record { perm = pte.perm; bytes = option_map (λ (n : PageNo). arena_page s.arena n.0) f })) framed;
-      entry = there ∙ (λ i. Some (record pte { frame = framed i }));
+      table = λ i. record s.table { entries = (sym (put_same place_cmp place_total place_exact place pte s.table.entries (sorted_table s.table whole.valid) there) ∙ (λ j. put place_cmp place (record pte { frame = framed j }) s.table.entries)) i };
       memory = λ i. record (memory_of s) { map = sym (with_it ∙ same_map) i };
       bytes = sym bytes;
     }
 
 -- ---- no page is free
-pub out_of_pages : (s : PageStore) (pte : Pte) → IsWhole s → pte.frame ≡ None → free_pages s.pool ≡ 0 → is_out_of_pages (memory_of s) (page_in s.arena pte) ≡ true
+pub out_of_pages : (s : PageStore) (pte : Pte) → IsFit s → pte.frame ≡ None → free_pages s.pool ≡ 0 → is_out_of_pages (memory_of s) (page_in s.arena pte) ≡ true
 out_of_pages s pte whole fresh none =
     let all : leb s.pool.pages (used (memory_of s)) ≡ true = le-leb s.pool.pages (used (memory_of s)) (omega (arith, used_is s, whole.named, none)) in
     ap (λ (f : Option PageNo). is_out_of_pages (memory_of s) (record { perm = pte.perm; bytes = option_map (λ (n : PageNo). arena_page s.arena n.0) f })) fresh ∙ all
@@ -226,6 +226,7 @@ ranges_same t u ranges span some = record {
   where
     back : (space start page : ℕ) → IsIn u space start page → IsIn t space start page
     back space start page inside = (inside.0, omega (arith, inside.1, span (space, start)))
+
     forth : (space start page : ℕ) → IsIn t space start page → IsIn u space start page
     forth space start page inside = (inside.0, omega (arith, inside.1, span (space, start)))
 
@@ -257,7 +258,7 @@ module _ (s : PageStore) (k : Place) (pte : Pte) (frame : PageNo) (one two : Poo
 
   -- what the calls of the parts gave
   pub record Given : Type 0 where
-    pub whole : IsWhole s
+    pub whole : IsFit s
     pub there : entry_of s.table k ≡ Some pte
     pub fresh : pte.frame ≡ None
     pub front : free_list s.pool ≡ frame.0 ∷ free_list one
@@ -334,8 +335,8 @@ module _ (s : PageStore) (k : Place) (pte : Pte) (frame : PageNo) (one two : Poo
       | inr n ↦ rw n.1 refl
     ]
 
-    pub whole_framed : IsWhole framed_store
-    whole_framed = record {
+    pub fit_framed : IsFit framed_store
+    fit_framed = record {
       valid = g.valid;
       ranges = ranges_same s.table framed_table g.whole.ranges same_span same_mapped;
       taken = record {
@@ -346,11 +347,6 @@ module _ (s : PageStore) (k : Place) (pte : Pte) (frame : PageNo) (one two : Poo
         ];
       };
       named = omega (arith, backed-put k pte with_frame s.table.entries frame sorted g.there g.fresh refl, g.whole.named, free_is s.pool, free_is two, ap length g.front, ap length g.free, pages);
-      keys = keys_put (λ place. not (is_process place.0)) k pte with_frame s.table.entries sorted g.there ∙ g.whole.keys;
-      held = λ place p offload found. elim (split_place place k) [
-        | inl t ↦ let e : Some with_frame ≡ Some p = sym (entry-with s.table k with_frame place ∙ rw t.1 refl) ∙ found in let x : with_frame ≡ p = cc in ap (λ (y : Pte). is_some y.frame) (sym x)
-        | inr n ↦ g.whole.held place p offload (sym (entry-with s.table k with_frame place ∙ rw n.1 refl) ∙ found)
-      ];
       arena = g.long ∙ g.whole.arena ∙ sym pages;
       sized = λ q f h. elim (before q f h) [
         | inl t ↦ ap length (ap (arena_page arena) t.1 ∙ frame_zero) ∙ fresh_size
@@ -358,6 +354,16 @@ module _ (s : PageStore) (k : Place) (pte : Pte) (frame : PageNo) (one two : Poo
       ];
       zero = g.zero;
       cached = g.cached;
+    }
+
+    pub whole_framed : IsWhole s → IsWhole framed_store
+    whole_framed whole = record {
+      fit = fit_framed;
+      keys = keys_put (λ place. not (is_process place.0)) k pte with_frame s.table.entries sorted g.there ∙ whole.keys;
+      held = λ place p offload found. elim (split_place place k) [
+        | inl t ↦ let e : Some with_frame ≡ Some p = sym (entry-with s.table k with_frame place ∙ rw t.1 refl) ∙ found in let x : with_frame ≡ p = cc in ap (λ (y : Pte). is_some y.frame) (sym x)
+        | inr n ↦ whole.held place p offload (sym (entry-with s.table k with_frame place ∙ rw n.1 refl) ∙ found)
+      ];
     }
 
     zeroed : arena_page arena frame.0 ≡ bytes_of (page_in s.arena pte)
@@ -374,7 +380,7 @@ module _ (s : PageStore) (k : Place) (pte : Pte) (frame : PageNo) (one two : Poo
     pub is_framed : IsFramed s framed_store k pte frame
     is_framed = record {
       room = ap (λ (b : Bool). is_none (option_map (λ (n : PageNo). arena_page s.arena n.0) pte.frame) && b) free_left ∙ no_more (is_none (option_map (λ (n : PageNo). arena_page s.arena n.0) pte.frame));
-      entry = entry-with s.table k with_frame k ∙ rw (same_place-self k) refl;
+      table = refl;
       memory = λ i. record (memory_of s) { map = map_is i; ranges = spans-put k pte with_frame s.table.entries sorted g.there refl i; pages = pages i };
       bytes = zeroed;
     }
@@ -393,6 +399,6 @@ pub changed_open_at : (s t new : PageStore) (space : ℕ) (addr : Addr) (may : P
     → IfSome (page_at (memory_of t) space (page_of addr)) (λ page. memory_of new ≡ written (memory_of t) space (page_of addr) page (with_bytes at bytes (bytes_of page)))
     → memory_of new ≡ written (memory_of s) space (page_of addr) o.page (with_bytes (offset_of addr) bytes (bytes_of o.page))
 changed_open_at s t new space addr may frame at bytes whole opened is change =
-    let sorted : T (is_sorted place_cmp (pages_in s.arena s.table.entries)) = rw (sorted_pages s.arena s.table.entries) (sorted_table s.table whole.valid) in
+    let sorted : T (is_sorted place_cmp (pages_in s.arena s.table.entries)) = rw (sorted_pages s.arena s.table.entries) (sorted_table s.table whole.fit.valid) in
     changed_open (memory_of s) (memory_of t) (memory_of new) space (page_of addr) opened.page at bytes sorted opened.memory change
     ∙ ap (λ n. written (memory_of s) space (page_of addr) opened.page (with_bytes n bytes (bytes_of opened.page))) is

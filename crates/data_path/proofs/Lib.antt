@@ -4,3 +4,4 @@ pub mod Accesses
 pub mod Framing
 pub mod Spans
 pub mod Ranging
+pub mod Openings

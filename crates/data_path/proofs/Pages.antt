@@ -70,6 +70,7 @@ pages_in-other a b es sorted same =
     on : (q : Place) (pte : Pte) → find place_cmp q es ≡ Some pte → (o : Option PageNo) → pte.frame ≡ o → option_map (λ frame. arena_page b frame.0) o ≡ option_map (λ frame. arena_page a frame.0) o
     on q pte there None is = refl
     on q pte there (Some frame) is = ap (λ (l : List ℕ). Some l) (same q pte frame there is)
+
     at : (q : Place) (o : Option Pte) → find place_cmp q es ≡ o → option_map (page_in b) o ≡ option_map (page_in a) o
     at q None is = refl
     at q (Some pte) is = λ i. Some (record { perm = pte.perm; bytes = on q pte is pte.frame refl i })

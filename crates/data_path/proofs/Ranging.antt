@@ -31,7 +31,7 @@ use Rattle.flat_model.specs.Rows.{keys}
 use Rattle.flat_model.specs.State.{FlatState, Page, fits, least, places, places_of}
 use Rattle.flat_model.specs.Step.{Outcome, alloc, alloc_at, free, free_if, has_pages, is_among, is_range, mapped, unmapped, with_fresh}
 use Rattle.data_path.specs.declared.store.PageStore.{PageStore}
-use Rattle.data_path.specs.Store.{page_in, pages_in, spans_in, backed, memory_of, IsCached, IsWhole}
+use Rattle.data_path.specs.Store.{page_in, pages_in, spans_in, backed, memory_of, IsCached, IsFit, IsWhole}
 use Rattle.data_path.proofs.Framing.{frame_named}
 use Rattle.data_path.proofs.Keyed.{around_new}
 use Rattle.data_path.proofs.Pages.{sorted_pages, pages_in-put, pages_in-other, backed-append}
@@ -115,7 +115,7 @@ offloads_same t u left right same =
     at q false is = rw is (same q is)
 
 -- ---- a range joins
-module _ (s : PageStore) (space start n : ℕ) (perm : Perm) (whole : IsWhole s) (some : 0 < n) (process : is_process space ≡ true)
+module _ (s : PageStore) (space start n : ℕ) (perm : Perm) (whole : IsFit s) (some : 0 < n)
     (found : Some start ≡ least s.table.buckets (keys s.table.entries) space n) where
   abbrev pub joined : PageMap
   joined = with_range s.table space start n perm
@@ -176,7 +176,7 @@ pages_in-new arena perm span (place ∷ places) es before =
     pages_in-put arena place (new_page perm span) (with_pages perm 0 places es) (sorted-new perm 0 places es before)
     ∙ ap (put place_cmp place (record { perm = perm; bytes = None })) (pages_in-new arena perm 0 places es before)
 
-module _ (s : PageStore) (space start n : ℕ) (perm : Perm) (whole : IsWhole s) (some : 0 < n) (process : is_process space ≡ true)
+module _ (s : PageStore) (space start n : ℕ) (perm : Perm) (whole : IsFit s) (some : 0 < n)
     (found : Some start ≡ least s.table.buckets (keys s.table.entries) space n) where
   abbrev new : PageMap
   new = with_range s.table space start n perm
@@ -184,7 +184,7 @@ module _ (s : PageStore) (space start n : ℕ) (perm : Perm) (whole : IsWhole s)
   -- and make one range
   spans_joined : spans_in new.entries ≡ put place_cmp (space, start) n (spans_in s.table.entries)
   spans_joined =
-      let before = sorted s space start n perm whole some process found in
+      let before = sorted s space start n perm whole some found in
       let after = sorted-with_range s.table space start n perm whole.valid in
       same_entries place_cmp place_total place_exact (spans_in new.entries) (put place_cmp (space, start) n (spans_in s.table.entries)) (sorted_spans new.entries after) (is_sorted-put place_cmp place_total (space, start) n (spans_in s.table.entries) (sorted_spans s.table.entries before)) (λ q.
       find-spans_in new.entries q after ∙ ap span_of (entry-with_range s.table space start n perm q) ∙ at q
@@ -197,36 +197,44 @@ module _ (s : PageStore) (space start n : ℕ) (perm : Perm) (whole : IsWhole s)
             let one : eqb n 0 ≡ false = grind (arith, nat_tests) in
             rw (here, t.1) (rw one refl)
         | inr f ↦ elim (cases_Bool (is_among space start n q)) [
-          | inl is ↦ rw (is, f.1) (sym (ap span_of (unmapped_page s space start n perm whole some process found q is)))
+          | inl is ↦ rw (is, f.1) (sym (ap span_of (unmapped_page s space start n perm whole some found q is)))
           | inr isnt ↦ rw (isnt, f.1) refl
         ]
       ]
 
   pub memory_joined : memory_of (record s { table = with_range s.table space start n perm }) ≡ mapped (memory_of s) space start n perm
   memory_joined = λ i. record (memory_of s) {
-    map = pages_in-new s.arena perm n (places_of space start n) s.table.entries (sorted s space start n perm whole some process found) i;
+    map = pages_in-new s.arena perm n (places_of space start n) s.table.entries (sorted s space start n perm whole some found) i;
     ranges = spans_joined i;
   }
 
-  pub whole_joined : IsValid new → AreRanges new → ((q : Place) → frame_at new q ≡ frame_at s.table q) → IsWhole (record s { table = with_range s.table space start n perm })
-  whole_joined valid ranges frames =
-      let away : (q : Place) → is_process q.0 ≡ false → entry_of new q ≡ entry_of s.table q = λ q offload.
-      outside s space start n perm whole some process found q (offload_outside space start n q process offload) in
-      record {
-        valid = valid;
-        ranges = ranges;
-        taken = taken_same s.table new s.pool whole.taken frames;
-        named = omega (arith, backed-new perm n space start n s.table.entries (unmapped_page s space start n perm whole some process found), whole.named);
-        keys = ap keys (offloads_same s.table new (sorted s space start n perm whole some process found) (sorted-with_range s.table space start n perm whole.valid) away) ∙ whole.keys;
-        held = λ q pte offload there. whole.held q pte offload (sym (away q offload) ∙ there);
-        arena = whole.arena;
-        sized = λ q frame named. whole.sized q frame (sym (frames q) ∙ named);
-        zero = whole.zero;
-        cached = λ q pte noted. elim (cases_Bool (is_among space start n q)) [
-          | inl is ↦ absurd (let none = unmapped_page s space start n perm whole some process found q is in let both = sym none ∙ whole.cached q pte noted in cc)
-          | inr isnt ↦ outside s space start n perm whole some process found q isnt ∙ whole.cached q pte noted
-        ];
-      }
+  pub fit_joined : IsValid new → AreRanges new → ((q : Place) → frame_at new q ≡ frame_at s.table q) → IsFit (record s { table = with_range s.table space start n perm })
+  fit_joined valid ranges frames = record {
+    valid = valid;
+    ranges = ranges;
+    taken = taken_same s.table new s.pool whole.taken frames;
+    named = omega (arith, backed-new perm n space start n s.table.entries (unmapped_page s space start n perm whole some found), whole.named);
+    arena = whole.arena;
+    sized = λ q frame named. whole.sized q frame (sym (frames q) ∙ named);
+    zero = whole.zero;
+    cached = λ q pte noted. elim (cases_Bool (is_among space start n q)) [
+      | inl is ↦ absurd (let none = unmapped_page s space start n perm whole some found q is in let both = sym none ∙ whole.cached q pte noted in cc)
+      | inr isnt ↦ outside s space start n perm whole some found q isnt ∙ whole.cached q pte noted
+    ];
+  }
+
+-- a range of a process leaves the offloads' pages
+pub whole_joined : (s : PageStore) (space start n : ℕ) (perm : Perm) → IsWhole s → 0 < n → is_process space ≡ true → Some start ≡ least s.table.buckets (keys s.table.entries) space n
+    → IsFit (record s { table = with_range s.table space start n perm }) → IsWhole (record s { table = with_range s.table space start n perm })
+whole_joined s space start n perm whole some process found fit =
+    let new : PageMap = with_range s.table space start n perm in
+    let away : (q : Place) → is_process q.0 ≡ false → entry_of new q ≡ entry_of s.table q = λ q offload.
+    outside s space start n perm whole.fit some found q (offload_outside space start n q process offload) in
+    record {
+      fit = fit;
+      keys = ap keys (offloads_same s.table new (sorted s space start n perm whole.fit some found) (sorted-with_range s.table space start n perm whole.fit.valid) away) ∙ whole.keys;
+      held = λ q pte offload there. whole.held q pte offload (sym (away q offload) ∙ there);
+    }
 
 -- ---- a range leaves
 module _ (table : PageMap) (space start : ℕ) (sorted : T (is_sorted place_cmp table.entries)) where
@@ -285,7 +293,7 @@ pages_in-where arena test (e ∷ es) = elim (cases_Bool (test e.0)) [
 ]
 
 -- the range stands where the span at its start says so
-pub range_is : (s : PageStore) (space start n : ℕ) → IsWhole s → 0 < n → is_range (memory_of s) space start n ≡ (span_at s.table (space, start) == n)
+pub range_is : (s : PageStore) (space start n : ℕ) → IsFit s → 0 < n → is_range (memory_of s) space start n ≡ (span_at s.table (space, start) == n)
 range_is s space start n whole some = ap (λ o. has_pages o n) (find-spans_in s.table.entries (space, start) (sorted_table s.table whole.valid)) ∙ by (entry_of s.table (space, start))
   where
     none : (0 == n) ≡ false
@@ -322,7 +330,7 @@ module _ (s : PageStore) (space start n : ℕ) (whole : IsWhole s) (some : 0 < n
     freed_store = record { table = cut; pool = two; arena = arena; cache = cache; spaces = s.spaces }
 
     before : T (is_sorted place_cmp s.table.entries)
-    before = sorted_table s.table whole.valid
+    before = sorted_table s.table whole.fit.valid
 
     after : T (is_sorted place_cmp cut.entries)
     after = sorted-left s.table space start before n
@@ -354,24 +362,29 @@ module _ (s : PageStore) (space start n : ℕ) (whole : IsWhole s) (some : 0 < n
     more_free : free_pages one ≡ free_pages s.pool + length (frames_of s.table space start n)
     more_free = ap free_pages f.released ∙ omega (arith, length-append s.pool.dirty (frames_of s.table space start n))
 
-    pub whole_freed : IsWhole freed_store
-    whole_freed = record {
+    fit_freed : IsFit freed_store
+    fit_freed = record {
       valid = f.valid;
       ranges = f.ranges;
       taken = record {
         taken = λ q frame named. let t = f.taken.taken q frame named in record { in_range = omega (arith, t.in_range, f.kept); not_free = ap (λ l. has l frame) f.free ∙ t.not_free };
         once = f.taken.once;
       };
-      named = omega (arith, whole.named, backed-left s.table space start before n, more_free, free_is one, free_is two, ap length f.free, pages);
-      keys = ap keys (offloads_same s.table cut before after offloads) ∙ whole.keys;
-      held = λ q pte offload there. whole.held q pte offload (sym (offloads q offload) ∙ there);
-      arena = f.long ∙ whole.arena ∙ sym pages;
-      sized = λ q frame named. ap length (same_bytes q frame named) ∙ whole.sized q frame (was_named q frame named);
+      named = omega (arith, whole.fit.named, backed-left s.table space start before n, more_free, free_is one, free_is two, ap length f.free, pages);
+      arena = f.long ∙ whole.fit.arena ∙ sym pages;
+      sized = λ q frame named. ap length (same_bytes q frame named) ∙ whole.fit.sized q frame (was_named q frame named);
       zero = f.zero;
       cached = λ q pte noted. elim (cases_Bool (is_among space start n q)) [
         | inl is ↦ absurd (let both = sym (f.gone q is) ∙ noted in cc)
-        | inr isnt ↦ away q isnt ∙ whole.cached q pte (sym (f.stays q isnt) ∙ noted)
+        | inr isnt ↦ away q isnt ∙ whole.fit.cached q pte (sym (f.stays q isnt) ∙ noted)
       ];
+    }
+
+    pub whole_freed : IsWhole freed_store
+    whole_freed = record {
+      fit = fit_freed;
+      keys = ap keys (offloads_same s.table cut before after offloads) ∙ whole.keys;
+      held = λ q pte offload there. whole.held q pte offload (sym (offloads q offload) ∙ there);
     }
 
     map_left : pages_in arena cut.entries ≡ where_key place_cmp (λ place. not (is_among space start n place)) (pages_in s.arena s.table.entries)
@@ -398,7 +411,7 @@ module _ (s : PageStore) (space start n : ℕ) (whole : IsWhole s) (some : 0 < n
               let nonzero : 0 < pte.span = grind (arith, nat_tests) in
               let mine : IsIn s.table q.0 q.1 q.1 = (omega arith, omega (arith, span, nonzero)) in
               let range : IsIn s.table q.0 start q.1 = (among.low, omega (arith, among.high, ap (λ x. span_at s.table (x, start)) among.there, stands)) in
-              let same = whole.ranges.once q.0 q.1 start q.1 mine range in
+              let same = whole.fit.ranges.once q.0 q.1 start q.1 mine range in
               absurd (other (λ i. (among.there i, same i)))
         ]
 

@@ -9,7 +9,7 @@ use Rattle.cl_types.specs.declared.reply.Refusal.{Refusal}
 use Rattle.cl_types.specs.declared.reply.Reply.{Reply}
 use Rattle.cl_types.specs.declared.reply.Reply.TheVariants.{Refused}
 use Rattle.cl_types.specs.Places.{Place}
-use Rattle.hash_buckets.specs.PageMap.{entry_of}
+use Rattle.hash_buckets.specs.PageMap.{entry_of, with_entry}
 use Rattle.page_arena.specs.Arena.{page_at as arena_page}
 use Rattle.flat_model.specs.Pages.{page_of, offset_of}
 use Rattle.flat_model.specs.State.{FlatState, Page, bytes_of}
@@ -52,7 +52,7 @@ pub record IsFound (s : PageStore) (space : ℕ) (addr : Addr) (may : Perm → B
 -- the page of the entry has this frame, and is fresh no more
 pub record IsFramed (old new : PageStore) (place : Place) (pte : Pte) (frame : PageNo) : Type 0 where
   pub room : is_out_of_pages (memory_of old) (page_in old.arena pte) ≡ false
-  pub entry : entry_of new.table place ≡ Some (record pte { frame = Some frame })
+  pub table : new.table ≡ with_entry old.table place (record pte { frame = Some frame })
   pub memory : memory_of new ≡ written (memory_of old) place.0 place.1 (page_in old.arena pte) (bytes_of (page_in old.arena pte))
   pub bytes : arena_page new.arena frame.0 ≡ bytes_of (page_in old.arena pte)
 

@@ -52,6 +52,10 @@ flat_of objects memory = record {
   buckets = memory.buckets;
 }
 
+-- the memory of so many pages and buckets in which nothing is mapped
+abbrev pub empty_memory : ℕ → ℕ → FlatState
+empty_memory pages buckets = record { map = []; ranges = []; objects = []; held = []; pages = pages; buckets = buckets }
+
 -- ---- when the parts of a store fit
 -- how many of the entries have a frame
 abbrev pub backed : List (Place × Pte) → ℕ
@@ -71,20 +75,24 @@ IsCached cache table = (place : Place) (pte : Pte) → cached_entry cache place 
 abbrev pub IsLatest : Cached → Place → Type 0
 IsLatest cache place = (pte : Pte) → cached_entry cache place ≡ Some pte → IsFirst cache place pte
 
--- the parts of the store fit
-pub record IsWhole (s : PageStore) : Type 0 where
+-- the table, the pool, the arena and the cache fit one another
+pub record IsFit (s : PageStore) : Type 0 where
   pub valid : IsValid s.table
   pub ranges : AreRanges s.table
   -- a frame that the table names is a taken page, and is named once
   pub taken : AreTaken s.table s.pool
   -- as many frames are named as pages are taken, so each taken page is named
   pub named : backed s.table.entries + free_pages s.pool ≡ s.pool.pages
-  -- a page is a process's, or it is one of the offloads' pages
-  pub keys : keys (where_key place_cmp (λ place. not (is_process place.0)) s.table.entries) ≡ held_places 0 s.spaces
-  -- and then it has a frame
-  pub held : (place : Place) (pte : Pte) → is_process place.0 ≡ false → entry_of s.table place ≡ Some pte → IsTrue (is_some pte.frame)
   pub arena : length s.arena ≡ s.pool.pages
   pub sized : (place : Place) (frame : ℕ) → frame_at s.table place ≡ Some frame → length (arena_page s.arena frame) ≡ PAGE_BYTES
   -- the free pages that are ready or clean are zero
   pub zero : AreZero s.arena (s.pool.ring ++ s.pool.clean)
   pub cached : IsCached s.cache s.table
+
+-- the store is whole: its parts fit, and the offloads have their pages
+pub record IsWhole (s : PageStore) : Type 0 where
+  pub fit : IsFit s
+  -- a page is a process's, or it is one of the offloads' pages
+  pub keys : keys (where_key place_cmp (λ place. not (is_process place.0)) s.table.entries) ≡ held_places 0 s.spaces
+  -- and then it has a frame
+  pub held : (place : Place) (pte : Pte) → is_process place.0 ≡ false → entry_of s.table place ≡ Some pte → IsTrue (is_some pte.frame)

@@ -10,9 +10,12 @@
 #![tactic(auto)]
 
 mod need;
+mod opening;
 mod part;
 mod range;
 mod store;
+#[cfg(test)]
+mod tests;
 
 pub use need::Need;
 pub use store::{PageStore, offset_of, page_of};

@@ -53,7 +53,7 @@ pub fn offset_of(addr: Addr) -> usize
 }
 
 impl PageStore {
-    ghost use Rattle.data_path.specs.Store.{memory_of, page_in, IsCached, IsLatest, IsWhole};
+    ghost use Rattle.data_path.specs.Store.{memory_of, page_in, IsCached, IsFit, IsLatest, IsWhole};
     ghost use Rattle.data_path.specs.Access.{allows, IsClosed, IsDenied, IsFound, IsFramed, IsOpen};
 
     /// Finds the page of an address for what is to be done with its bytes, and gives a fresh page a frame: the frame
@@ -128,18 +128,19 @@ impl PageStore {
         takes: &mut Steps<B>,
     ) -> Option<PageNo>
         requires mapped { entry_of self.old.table (space.0, vpn.0) ≡ Some pte }
-        requires whole { IsWhole self.old }
+        requires fit { IsFit self.old }
         requires ready { IsReady self.old.pool }
-        requires latest { IsLatest self.old.cache (space.0, vpn.0) }
         ensures none { IfNone result
             (is_out_of_pages (memory_of self.old) (page_in self.old.arena pte) ≡ true) }
         ensures unchanged { IfNone result (memory_of self.new ≡ memory_of self.old) }
         ensures framed { IfSome result (λ frame.
             IsFramed self.old self.new (space.0, vpn.0) pte frame) }
-        ensures whole { IsWhole self.new }
+        ensures fit { IsFit self.new }
+        ensures whole { IsWhole self.old → IsWhole self.new }
         ensures ready { IsReady self.new.pool }
         ensures taken { takes.new ≤ takes.old + 1 }
-        ensures latest { IsLatest self.new.cache (space.0, vpn.0) }
+        ensures latest { IsLatest self.old.cache (space.0, vpn.0)
+            → IsLatest self.new.cache (space.0, vpn.0) }
     {
         if let Some(frame) = pte.frame {
             return Some(frame);

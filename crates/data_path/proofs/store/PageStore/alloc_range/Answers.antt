@@ -8,7 +8,7 @@ use Rattle.range_alloc.proofs.Fitting.{some_pages}
 use Rattle.flat_model.specs.Step.{Outcome, alloc_at}
 use Rattle.data_path.specs.declared.store.PageStore.{PageStore}
 use Rattle.data_path.specs.Store.{memory_of, IsWhole}
-use Rattle.data_path.proofs.Ranging.{alloc_is, memory_joined, whole_joined}
+use Rattle.data_path.proofs.Ranging.{alloc_is, memory_joined, fit_joined, whole_joined}
 use Rattle.data_path.proofs.store.PageStore.alloc_range.Goals as goal
 
 pub returns-in-Some-clause-reply : goal.returns-in-Some-clause-reply
@@ -20,7 +20,7 @@ pub returns-in-Some-clause-memory : goal.returns-in-Some-clause-memory
 returns-in-Some-clause-memory c =
     let s = c.args.self.now in
     ap (λ (t : PageMap). memory_of (record s { table = t })) c.in-Some.ensures.some
-    ∙ memory_joined s c.args.space.0 c.in-Some.start.0 c.args.pages c.args.perm c.requires.whole (some_pages c.args.pages c.requires.pages) c.requires.process c.in-Some.ensures.start
+    ∙ memory_joined s c.args.space.0 c.in-Some.start.0 c.args.pages c.args.perm c.requires.whole.fit (some_pages c.args.pages c.requires.pages) c.in-Some.ensures.start
     ∙ sym (ap (λ (o : Outcome). o.state) (alloc_is s c.args.space.0 c.args.pages c.args.perm (Some c.in-Some.start.0) c.in-Some.ensures.start))
 
 pub returns-in-Some-clause-whole : goal.returns-in-Some-clause-whole
@@ -28,8 +28,9 @@ returns-in-Some-clause-whole c =
     let s = c.args.self.now in
     let is = c.in-Some.ensures.some in
     subst (λ (t : PageMap). IsWhole (record s { table = t })) (sym is)
-        (whole_joined s c.args.space.0 c.in-Some.start.0 c.args.pages c.args.perm c.requires.whole (some_pages c.args.pages c.requires.pages) c.requires.process c.in-Some.ensures.start
-        (subst IsValid is c.in-Some.ensures.valid) (subst AreRanges is c.in-Some.ensures.ranges) (λ q. ap (λ (t : PageMap). frame_at t q) (sym is) ∙ c.in-Some.ensures.frames q))
+    (whole_joined s c.args.space.0 c.in-Some.start.0 c.args.pages c.args.perm c.requires.whole (some_pages c.args.pages c.requires.pages) c.requires.process c.in-Some.ensures.start
+    (fit_joined s c.args.space.0 c.in-Some.start.0 c.args.pages c.args.perm c.requires.whole.fit (some_pages c.args.pages c.requires.pages) c.in-Some.ensures.start
+    (subst IsValid is c.in-Some.ensures.valid) (subst AreRanges is c.in-Some.ensures.ranges) (λ q. ap (λ (t : PageMap). frame_at t q) (sym is) ∙ c.in-Some.ensures.frames q)))
 
 pub returns-in-None-clause-reply : goal.returns-in-None-clause-reply
 returns-in-None-clause-reply c = sym (ap (λ (o : Outcome). o.reply) (alloc_is c.args.self.now c.args.space.0 c.args.pages c.args.perm _ c.in-None.ensures.start))

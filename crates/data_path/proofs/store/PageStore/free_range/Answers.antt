@@ -21,7 +21,7 @@ use Rattle.data_path.proofs.store.PageStore.free_range.Goals as goal
 free_is : (s : PageStore) (space : ℕ) (addr : Addr) (n start : ℕ) (stands : Bool) → IsWhole s → 0 < n → start ≡ page_of addr → stands ≡ (span_at s.table (space, start) == n)
     → free (memory_of s) space addr n ≡ free_if (memory_of s) space (page_of addr) n stands
 free_is s space addr n start stands whole some is by =
-    ap (free_if (memory_of s) space (page_of addr) n) (range_is s space (page_of addr) n whole some ∙ ap (λ p. span_at s.table (space, p) == n) (sym is) ∙ sym by)
+    ap (free_if (memory_of s) space (page_of addr) n) (range_is s space (page_of addr) n whole.fit some ∙ ap (λ p. span_at s.table (space, p) == n) (sym is) ∙ sym by)
 
 pub returns-then-not-unmap_range-clause-reply : goal.returns-then-not-unmap_range-clause-reply
 returns-then-not-unmap_range-clause-reply c =
@@ -34,13 +34,12 @@ returns-then-not-unmap_range-clause-memory c =
     (λ i. memory_of (record s { table = same.0 i; pool = same.1 i }))
     ∙ sym (ap (λ (o : Outcome). o.state) (free_is s c.args.space.0 c.args.addr c.args.pages c.page_of-start.result.0 false c.requires.whole (some_pages c.args.pages c.requires.pages) c.page_of-start.ensures c.if-not-unmap_range.ensures.stands))
 
-
 pub forget-requires : goal.forget-requires
 forget-requires c =
     let some = some_pages c.args.pages c.requires.pages in
     let span : span_at c.args.self.now.table (c.args.space.0, c.page_of-start.result.0) ≡ c.args.pages = let same = c.if-not-unmap_range.ensures.stands in grind (arith, nat_tests) in
-    let last = page_mapped c.args.self.now.table c.args.space.0 c.page_of-start.result.0 c.args.pages c.requires.whole.ranges span some (c.args.pages - 1) (omega (arith, some)) in
-    omega (arith, some, c.requires.whole.ranges.within _ _ last)
+    let last = page_mapped c.args.self.now.table c.args.space.0 c.page_of-start.result.0 c.args.pages c.requires.whole.fit.ranges span some (c.args.pages - 1) (omega (arith, some)) in
+    omega (arith, some, c.requires.whole.fit.ranges.within _ _ last)
 
 pub returns-clause-reply : goal.returns-clause-reply
 returns-clause-reply c =
@@ -89,5 +88,5 @@ pub returns-clause-whole : goal.returns-clause-whole
 returns-clause-whole c =
     let s = c.args.self.now in
     subst IsWhole (sym (ends c))
-        (subst (λ (t : PageMap). IsWhole (record { table = t; pool = c.refill.new.self.pool; arena = c.refill.new.self.arena; cache = c.forget.new.self.cache; spaces = s.spaces })) (sym (c.if-not-unmap_range.ensures.gone refl))
-        (whole_freed s c.args.space.0 c.page_of-start.result.0 c.args.pages c.requires.whole (some_pages c.args.pages c.requires.pages) c.requires.process (spanned c) c.unmap_range.new.pool c.refill.new.self.pool c.refill.new.self.arena c.forget.new.self.cache (freed c)))
+    (subst (λ (t : PageMap). IsWhole (record { table = t; pool = c.refill.new.self.pool; arena = c.refill.new.self.arena; cache = c.forget.new.self.cache; spaces = s.spaces })) (sym (c.if-not-unmap_range.ensures.gone refl))
+    (whole_freed s c.args.space.0 c.page_of-start.result.0 c.args.pages c.requires.whole (some_pages c.args.pages c.requires.pages) c.requires.process (spanned c) c.unmap_range.new.pool c.refill.new.self.pool c.refill.new.self.arena c.forget.new.self.cache (freed c)))

@@ -10,7 +10,7 @@ use Rattle.data_path.proofs.store.PageStore.put.Goals as goal
 pub returns-clause-memory : goal.returns-clause-memory
 returns-clause-memory c place named =
     subst (λ (new : PageStore). IfSome (page_at (memory_of c.args.self.now) place.0 place.1) (λ page. memory_of new ≡ written (memory_of c.args.self.now) place.0 place.1 page (with_bytes c.args.at c.args.bytes.now (bytes_of page))))
-    (sym c.set_bytes.ensures.bytes) (wrote_named c.args.self.now c.args.frame c.args.at c.args.bytes.now place c.requires.whole named)
+    (sym c.set_bytes.ensures.bytes) (wrote_named c.args.self.now c.args.frame c.args.at c.args.bytes.now place c.requires.whole.fit named)
 
 pub returns-clause-whole : goal.returns-clause-whole
 returns-clause-whole c =

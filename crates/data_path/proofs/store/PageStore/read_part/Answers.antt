@@ -20,8 +20,8 @@ returns-in_err-pte-clause-reply g c =
 pub page-page-requires : goal.page-page-requires
 page-page-requires g c =
     let s = c.args.self.now in
-    let taken = c.requires.whole.taken.taken _ c.in-Some.frame.0 (frame_named s _ c.in_ok-pte.pte c.in-Some.frame c.in_ok-pte.ensures.found.entry c.in-Some.is) in
-    omega (arith, taken.in_range, c.requires.whole.arena, ap (λ (s : PageStore). length s.arena) c.find.ensures.rest)
+    let taken = c.requires.whole.fit.taken.taken _ c.in-Some.frame.0 (frame_named s _ c.in_ok-pte.pte c.in-Some.frame c.in_ok-pte.ensures.found.entry c.in-Some.is) in
+    omega (arith, taken.in_range, c.requires.whole.fit.arena, ap (λ (s : PageStore). length s.arena) c.find.ensures.rest)
 
 pub returns-in-None-clause-reply : goal.returns-in-None-clause-reply
 returns-in-None-clause-reply g c =

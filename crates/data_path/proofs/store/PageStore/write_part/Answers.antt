@@ -19,7 +19,7 @@ returns-in_err-frame-clause-memory g c =
     c.in_err-frame.ensures.unchanged ∙ sym (ap (λ (o : Outcome). o.state) (c.in_err-frame.ensures.refused (λ (page : Page). puts (memory_of c.args.self.now) c.args.space.0 c.args.addr page c.args.bytes.now Nothing)))
 
 pub put-requires-clause-taken : goal.put-requires-clause-taken
-put-requires-clause-taken g c = c.open.ensures.whole.taken.taken _ _ (frame_open c.args.self.now c.open.new.self c.args.space.0 c.args.addr _ c.in_ok-frame.frame c.in_ok-frame.ensures.opened)
+put-requires-clause-taken g c = c.open.ensures.whole.fit.taken.taken _ _ (frame_open c.args.self.now c.open.new.self c.args.space.0 c.args.addr _ c.in_ok-frame.frame c.in_ok-frame.ensures.opened)
 
 pub returns-clause-reply : goal.returns-clause-reply
 returns-clause-reply g c =
