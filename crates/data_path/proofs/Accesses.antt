@@ -1,7 +1,7 @@
 -- What the flat machine says of an access, by the entry of its page.
-use Rattle.std.proofs.Common.{subst, T, ◌≡◌, ℕ, ◌+◌, ◌-◌, ◌≤◌, Bool, true, false, List, take, drop, Option, Some, None, option_map, length, refl, sym, ap, ◌∙◌, arith, IfSome}
+use Rattle.std.proofs.Common.{subst, T, ◌≡◌, ℕ, ◌+◌, ◌-◌, ◌≤◌, Bool, true, false, List, take, Option, Some, None, option_map, refl, sym, ap, ◌∙◌, arith, IfSome}
 use Rattle.std.proofs.lemmas.List.{take-replicate, drop-replicate}
-use Rattle.std.specs.FinMap.Entries.{find, put, is_sorted, find-put}
+use Rattle.std.specs.FinMap.Entries.{is_sorted, find-put}
 use Rattle.cl_types.specs.declared.call.Perm.{Perm}
 use Rattle.cl_types.specs.declared.page.Pte.{Pte}
 use Rattle.cl_types.specs.declared.numbers.Addr.{Addr}
@@ -15,7 +15,7 @@ use Rattle.page_arena.specs.Arena.{page_at as arena_page}
 use Rattle.translate_cache.specs.Cached.{Cached}
 use Rattle.flat_model.specs.Pages.{page_of}
 use Rattle.flat_model.specs.State.{FlatState, Page, page_at, bytes_of}
-use Rattle.flat_model.specs.Step.{Outcome, on_page, if_pages_last, is_out_of_pages, written}
+use Rattle.flat_model.specs.Step.{if_pages_last, is_out_of_pages, written}
 use Rattle.data_path.specs.declared.store.PageStore.{PageStore}
 use Rattle.data_path.specs.Store.{memory_of, page_in, IsCached, IsFit, IsWhole}
 use Rattle.data_path.specs.Access.{IsDenied, IsFound, IsFramed, IsOpen}

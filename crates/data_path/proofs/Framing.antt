@@ -1,8 +1,8 @@
 -- How a store stays whole, and what it means, after bytes were written or a page got a frame.
-use Rattle.std.proofs.Common.{Bool, true, false, T, ◌≡◌, ◌≢◌, ℕ, ◌+◌, ◌-◌, ◌<◌, ◌≤◌, ◌==◌, ◌||◌, ◌&&◌, not, cond, if◌then◌else◌, eqb, leb, le-leb, is_none, is_some, IsSome, IfSome, slice_get, length-append, take, drop, ◌⊎◌, inl, inr, List, [], ◌∷◌, ◌++◌, map, set, length, filter, count_by, Option, Some, None, option_map, refl, sym, ap, ◌∙◌, subst, arith, rules}
+use Rattle.std.proofs.Common.{Bool, true, false, T, ◌≡◌, ◌≢◌, ℕ, ◌+◌, ◌<◌, ◌≤◌, ◌&&◌, not, cond, if◌then◌else◌, eqb, leb, le-leb, is_none, is_some, IfSome, slice_get, length-append, take, drop, ◌⊎◌, inl, inr, List, [], ◌∷◌, ◌++◌, set, length, filter, count_by, Option, Some, None, option_map, refl, sym, ap, ◌∙◌, subst, arith}
 use Rattle.std.specs.FinMap.Entries.{find, put, where_key, is_sorted, find-put, is_sorted-put, same_entries}
 use Rattle.std.proofs.Math.Logic.{∥∥₁_map}
-use Rattle.std.proofs.lemmas.Bool.{lt-leb, cases_Bool, cases_eq, eq-eqb, eqb-true}
+use Rattle.std.proofs.lemmas.Bool.{lt-leb, cases_Bool, cases_eq, eq-eqb}
 use Rattle.std.proofs.lemmas.List.{get_or-set_same, get_or-set_other, length-set, length-take, length-drop, length-replicate}
 use Rattle.std.proofs.lemmas.List.Sums.{sum_by-cons}
 use Rattle.std.proofs.lemmas.List.Elements.{filter-append}
@@ -12,13 +12,13 @@ use Rattle.cl_types.specs.declared.numbers.Addr.{Addr}
 use Rattle.cl_types.specs.declared.numbers.PageNo.{PageNo}
 use Rattle.cl_types.specs.Bytes.{with_bytes, fresh_bytes}
 use Rattle.cl_types.specs.Places.{Place, place_cmp, is_process}
-use Rattle.cl_types.proofs.PlaceLemmas.{place_total, place_exact, same_place, same_place-self, split_place}
+use Rattle.cl_types.proofs.PlaceLemmas.{place_total, place_exact, same_place, split_place}
 use Rattle.hash_buckets.specs.PageMap.{PageMap, entry_of, with_entry, IsValid}
 use Rattle.index_lists.specs.NodeLists.{has}
 use Rattle.page_arena.specs.Arena.{page_at as arena_page}
 use Rattle.page_pool.specs.PoolPages.{PoolPages, free_list, free_pages, IsTaken, AreZero}
 use Rattle.page_pool.proofs.Members.{has-append_false}
-use Rattle.range_alloc.specs.Ranges.{AreRanges, AreTaken, IsIn, frame_at, span_at}
+use Rattle.range_alloc.specs.Ranges.{AreRanges, IsIn, frame_at, span_at}
 use Rattle.range_alloc.proofs.Entries.{entry-with, frame_in, span_in, sorted_table}
 use Rattle.translate_cache.specs.Cached.{Cached}
 use Rattle.translate_cache.specs.Cached.{entry_of as cached_entry}
@@ -27,7 +27,7 @@ use Rattle.flat_model.specs.Rows.{keys}
 use Rattle.flat_model.specs.State.{Page, page_at, used, bytes_of}
 use Rattle.flat_model.specs.Step.{written, is_out_of_pages}
 use Rattle.data_path.specs.declared.store.PageStore.{PageStore}
-use Rattle.data_path.specs.Store.{page_in, pages_in, spans_in, backed, memory_of, IsCached, IsFit, IsWhole}
+use Rattle.data_path.specs.Store.{page_in, pages_in, backed, memory_of, IsCached, IsFit, IsWhole}
 use Rattle.data_path.specs.Access.{IsFramed, IsOpen}
 use Rattle.data_path.proofs.Accesses.{changed_open, page_there, bytes_framed, bytes_fresh}
 use Rattle.data_path.proofs.Keyed.{around, put_same}

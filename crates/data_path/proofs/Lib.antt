@@ -5,3 +5,5 @@ pub mod Framing
 pub mod Spans
 pub mod Ranging
 pub mod Openings
+pub mod Pieces
+pub mod Offloads

@@ -1,16 +1,14 @@
 -- A store that is new.
-use Rattle.std.proofs.Common.{◌≡◌, ℕ, ◌+◌, ◌-◌, true, List, [], ◌++◌, length, min, replicate, Option, Some, None, refl, sym, ap, ◌∙◌, subst, arith}
+use Rattle.std.proofs.Common.{◌≡◌, ℕ, ◌-◌, List, [], length, min, replicate, Some, None, refl, sym, ap, ◌∙◌, subst, arith}
 use Rattle.std.specs.List.{range_with_len}
 use Rattle.std.proofs.lemmas.List.{length-replicate}
 use Rattle.std.proofs.lemmas.List.FromFn.{length-range_with_len}
-use Rattle.cl_types.specs.declared.page.Pte.{Pte}
 use Rattle.cl_types.specs.Places.{Place}
 use Rattle.hash_buckets.specs.PageMap.{PageMap, IsValid}
 use Rattle.page_arena.specs.Arena.{zero_page}
 use Rattle.page_pool.specs.PoolPages.{PoolPages, IsPartition}
 use Rattle.page_pool.proofs.Zeros.{AreZero-new}
 use Rattle.range_alloc.specs.Ranges.{AreRanges, AreTaken, frame_at}
-use Rattle.range_alloc.proofs.Entries.{frame_in}
 use Rattle.range_alloc.proofs.Frames.{taken_empty}
 use Rattle.range_alloc.proofs.Ranges.{ranges_empty}
 use Rattle.translate_cache.specs.Cached.{Cached}

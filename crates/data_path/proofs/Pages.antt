@@ -1,15 +1,14 @@
 -- The pages that a table and an arena mean, and how they change with them.
-use Rattle.std.proofs.Common.{T, ◌≡◌, ◌≢◌, ℕ, ◌+◌, ◌==◌, if◌then◌else◌, Bool, true, false, cond, eqb, is_some, inl, inr, List, [], ◌∷◌, ◌++◌, Option, Some, None, option_map, refl, sym, ap, ◌∙◌, arith}
+use Rattle.std.proofs.Common.{T, ◌≡◌, ℕ, ◌+◌, ◌==◌, if◌then◌else◌, cond, eqb, is_some, inl, inr, List, [], ◌∷◌, ◌++◌, Option, Some, None, option_map, refl, sym, ap, ◌∙◌, arith}
 use Rattle.std.specs.FinMap.Entries.{find, put, is_sorted, find-put, is_sorted-put, same_entries, below_all}
 use Rattle.std.proofs.lemmas.Bool.{cases_Bool}
 use Rattle.cl_types.specs.declared.page.Pte.{Pte}
 use Rattle.cl_types.specs.declared.numbers.PageNo.{PageNo}
 use Rattle.cl_types.specs.Places.{Place, place_cmp}
-use Rattle.cl_types.proofs.PlaceLemmas.{place_total, place_exact, same_place, split_place}
+use Rattle.cl_types.proofs.PlaceLemmas.{place_total, place_exact, same_place}
 use Rattle.page_arena.specs.Arena.{page_at as arena_page}
-use Rattle.flat_model.specs.State.{Page}
 use Rattle.data_path.specs.Store.{page_in, pages_in, spans_in, backed}
-use Rattle.data_path.proofs.Keyed.{around, around_new}
+use Rattle.data_path.proofs.Keyed.{around}
 
 pub find-pages_in : (arena : List (List ℕ)) (es : List (Place × Pte)) (q : Place) → find place_cmp q (pages_in arena es) ≡ option_map (page_in arena) (find place_cmp q es)
 find-pages_in arena [] q = refl

@@ -1,5 +1,5 @@
 -- How a store stays whole, and what it means, after a range joined or left.
-use Rattle.std.proofs.Common.{T, ◌≡◌, ◌≢◌, ◌⊎◌, inl, inr, ℕ, zero, suc, ◌+◌, ◌-◌, ◌*◌, ◌<◌, ◌≤◌, ◌==◌, if◌then◌else◌, Bool, true, false, not, cond, eqb, is_some, List, [], ◌∷◌, ◌++◌, map, length, length-append, append-nil, Option, Some, None, option_map, refl, sym, ap, ◌∙◌, subst, arith}
+use Rattle.std.proofs.Common.{T, ◌≡◌, ◌≢◌, inl, inr, ℕ, zero, suc, ◌+◌, ◌-◌, ◌<◌, ◌==◌, if◌then◌else◌, Bool, true, false, not, cond, eqb, is_some, List, [], ◌∷◌, ◌++◌, map, length, length-append, append-nil, Option, Some, None, option_map, refl, sym, ap, ◌∙◌, subst, arith}
 use Rattle.std.specs.List.{cons_option, filter_map}
 use Rattle.std.specs.Ordering.{eq_by_cmp}
 use Rattle.std.specs.FinMap.Entries.{find, put, where_key, is_sorted, find-put, is_sorted-put, find-where_key, is_sorted-where_key, same_entries}
@@ -8,33 +8,30 @@ use Rattle.std.proofs.lemmas.Bool.Decides.{nat_tests}
 use Rattle.std.proofs.lemmas.List.Elements.{filter_map-append}
 use Rattle.std.proofs.lemmas.List.FromFn.{map-range_with_len_more}
 use Rattle.cl_types.specs.declared.call.Perm.{Perm}
-use Rattle.cl_types.specs.declared.numbers.Addr.{Addr}
 use Rattle.cl_types.specs.declared.numbers.PageNo.{PageNo}
 use Rattle.cl_types.specs.declared.page.Pte.{Pte}
 use Rattle.cl_types.specs.Places.{Place, place_cmp, is_process}
 use Rattle.cl_types.proofs.PlaceLemmas.{place_total, place_exact, same_place, same_place-self, same_place-sym, split_place}
-use Rattle.hash_buckets.specs.PageMap.{PageMap, entry_of, without_page, without_entry, IsValid}
+use Rattle.hash_buckets.specs.PageMap.{PageMap, entry_of, without_page, IsValid}
 use Rattle.hash_buckets.proofs.Tables.{find-without_page}
 use Rattle.index_lists.specs.NodeLists.{has}
 use Rattle.page_arena.specs.Arena.{page_at as arena_page}
-use Rattle.page_pool.specs.PoolPages.{PoolPages, free_list, free_pages, IsTaken, AreZero}
+use Rattle.page_pool.specs.PoolPages.{PoolPages, free_list, free_pages, AreZero}
 use Rattle.range_alloc.specs.Ranges.{AreRanges, AreTaken, IsIn, frame_at, frames_of, new_page, span_at, with_pages, with_range, without_range}
 use Rattle.range_alloc.proofs.Among.{among-true, among-page, among-none, among-rest, among-more}
-use Rattle.range_alloc.proofs.Entries.{entry-with_range, entry-without, entry-without_range, frame_in, page_in as range_page, same_table, sorted_table, sorted-with_range}
+use Rattle.range_alloc.proofs.Entries.{entry-with_range, entry-without, entry-without_range, frame_in, page_in as range_page, sorted_table, sorted-with_range}
 use Rattle.range_alloc.proofs.Fitting.{page_mapped}
 use Rattle.range_alloc.proofs.Frames.{taken_same}
 use Rattle.translate_cache.specs.Cached.{Cached}
 use Rattle.translate_cache.specs.Cached.{entry_of as cached_entry}
 use Rattle.flat_model.proofs.LeastLemmas.{least_start_is_the_least}
-use Rattle.flat_model.specs.Pages.{page_of}
 use Rattle.flat_model.specs.Rows.{keys}
-use Rattle.flat_model.specs.State.{FlatState, Page, fits, least, places, places_of}
-use Rattle.flat_model.specs.Step.{Outcome, alloc, alloc_at, free, free_if, has_pages, is_among, is_range, mapped, unmapped, with_fresh}
+use Rattle.flat_model.specs.State.{Page, least, places, places_of}
+use Rattle.flat_model.specs.Step.{alloc, alloc_at, has_pages, is_among, is_range, mapped, unmapped, with_fresh}
 use Rattle.data_path.specs.declared.store.PageStore.{PageStore}
-use Rattle.data_path.specs.Store.{page_in, pages_in, spans_in, backed, memory_of, IsCached, IsFit, IsWhole}
-use Rattle.data_path.proofs.Framing.{frame_named}
+use Rattle.data_path.specs.Store.{page_in, pages_in, spans_in, backed, memory_of, IsFit, IsWhole}
 use Rattle.data_path.proofs.Keyed.{around_new}
-use Rattle.data_path.proofs.Pages.{sorted_pages, pages_in-put, pages_in-other, backed-append}
+use Rattle.data_path.proofs.Pages.{pages_in-put, pages_in-other, backed-append}
 use Rattle.data_path.proofs.Spans.{span_of, sorted_spans, find-spans_in}
 
 -- ---- what the machine sees of a store

@@ -1,6 +1,6 @@
 -- What a page store means: a flat state over all pages, those of the offloads among them. And when its parts fit.
-use Rattle.std.specs.Prelude.{◌≡◌, ℕ, ◌+◌, ◌==◌, Bool, false, not, List, [], ◌∷◌, ◌++◌, length, map, Option, Some, None, option_map, is_some, if◌then◌else◌, IsTrue}
-use Rattle.std.specs.FinMap.Entries.{find, where_key}
+use Rattle.std.specs.Prelude.{◌≡◌, ℕ, ◌+◌, ◌==◌, false, not, List, [], ◌∷◌, ◌++◌, length, Some, option_map, is_some, if◌then◌else◌, IsTrue}
+use Rattle.std.specs.FinMap.Entries.{where_key}
 use Rattle.cl_types.specs.declared.limits.TheConstants.{PAGE_BYTES}
 use Rattle.cl_types.specs.declared.page.Pte.{Pte}
 use Rattle.cl_types.specs.Places.{Place, place_cmp, is_process}

@@ -13,9 +13,11 @@ mod need;
 mod opening;
 mod part;
 mod range;
+mod space;
 mod store;
 #[cfg(test)]
 mod tests;
 
 pub use need::Need;
+pub use space::SpaceOf;
 pub use store::{PageStore, offset_of, page_of};

@@ -1,12 +1,10 @@
-use Rattle.std.proofs.Common.{◌≡◌, ◌*◌, ◌∙◌, ℕ, Some, sym, ap, subst}
-use Rattle.cl_types.specs.declared.numbers.Addr.{Addr}
+use Rattle.std.proofs.Common.{◌*◌, ◌∙◌, ℕ, Some, sym, ap, subst}
 use Rattle.cl_types.specs.declared.reply.Reply.{Reply}
 use Rattle.cl_types.specs.declared.reply.Reply.TheVariants.{At}
 use Rattle.hash_buckets.specs.PageMap.{PageMap, IsValid}
 use Rattle.range_alloc.specs.Ranges.{AreRanges, frame_at}
 use Rattle.range_alloc.proofs.Fitting.{some_pages}
-use Rattle.flat_model.specs.Step.{Outcome, alloc_at}
-use Rattle.data_path.specs.declared.store.PageStore.{PageStore}
+use Rattle.flat_model.specs.Step.{Outcome}
 use Rattle.data_path.specs.Store.{memory_of, IsWhole}
 use Rattle.data_path.proofs.Ranging.{alloc_is, memory_joined, fit_joined, whole_joined}
 use Rattle.data_path.proofs.store.PageStore.alloc_range.Goals as goal

@@ -1,7 +1,6 @@
-use Rattle.std.proofs.Common.{◌≡◌, Some, refl, sym, ap, subst}
+use Rattle.std.proofs.Common.{◌≡◌, Some, refl, sym, subst}
 use Rattle.cl_types.specs.Places.{Place}
 use Rattle.hash_buckets.specs.PageMap.{with_entry, IsValid}
-use Rattle.data_path.specs.declared.store.PageStore.{PageStore}
 use Rattle.data_path.specs.Store.{IsFit, IsWhole}
 use Rattle.data_path.specs.Access.{IsFramed}
 use Rattle.data_path.proofs.Framing.{framed_already, out_of_pages, not_taken, Given, cached_put, fit_framed, whole_framed, is_framed, ring_first}

@@ -1,16 +1,14 @@
-use Rattle.std.proofs.Common.{◌≡◌, ◌≤◌, ◌<◌, ◌+◌, ◌-◌, ◌==◌, ◌∙◌, ℕ, Bool, true, false, length, refl, sym, ap, subst, arith}
+use Rattle.std.proofs.Common.{◌≡◌, ◌<◌, ◌-◌, ◌==◌, ◌∙◌, ℕ, Bool, true, false, length, refl, sym, ap, subst, arith}
 use Rattle.std.proofs.lemmas.Bool.Decides.{nat_tests}
 use Rattle.cl_types.specs.declared.numbers.Addr.{Addr}
-use Rattle.cl_types.specs.Places.{Place}
 use Rattle.hash_buckets.specs.PageMap.{PageMap, IsValid}
 use Rattle.index_lists.specs.NodeLists.{has}
 use Rattle.page_arena.specs.Arena.{page_at}
-use Rattle.page_pool.specs.PoolPages.{PoolPages, free_list, AreZero}
-use Rattle.range_alloc.specs.Ranges.{AreRanges, AreTaken, span_at, without_range}
+use Rattle.page_pool.specs.PoolPages.{free_list}
+use Rattle.range_alloc.specs.Ranges.{AreRanges, AreTaken, span_at}
 use Rattle.range_alloc.proofs.Fitting.{some_pages}
 use Rattle.range_alloc.proofs.Ranges.{page_mapped}
 use Rattle.flat_model.specs.Pages.{page_of}
-use Rattle.flat_model.specs.State.{FlatState}
 use Rattle.flat_model.specs.Step.{Outcome, free, free_if, unmapped}
 use Rattle.data_path.specs.declared.store.PageStore.{PageStore}
 use Rattle.data_path.specs.Store.{memory_of, IsWhole}

@@ -1,4 +1,4 @@
-use Rattle.std.proofs.Common.{sym, subst, ◌∙◌}
+use Rattle.std.proofs.Common.{sym, subst}
 use Rattle.data_path.specs.declared.store.PageStore.{PageStore}
 use Rattle.data_path.specs.Store.{IsWhole}
 use Rattle.data_path.specs.Access.{allows, IsFramed}

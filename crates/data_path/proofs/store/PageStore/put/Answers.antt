@@ -1,4 +1,4 @@
-use Rattle.std.proofs.Common.{◌≡◌, IfSome, sym, ap, subst}
+use Rattle.std.proofs.Common.{◌≡◌, IfSome, sym, subst}
 use Rattle.cl_types.specs.Bytes.{with_bytes}
 use Rattle.flat_model.specs.State.{page_at, bytes_of}
 use Rattle.flat_model.specs.Step.{written}

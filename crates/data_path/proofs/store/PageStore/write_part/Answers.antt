@@ -1,10 +1,9 @@
-use Rattle.std.proofs.Common.{◌≡◌, ◌∙◌, Some, sym, ap, subst}
+use Rattle.std.proofs.Common.{◌∙◌, sym, ap}
 use Rattle.std.proofs.lemmas.Result.{err_from_is_err_and}
-use Rattle.cl_types.specs.Bytes.{with_bytes}
 use Rattle.cl_types.specs.declared.reply.Reply.TheVariants.{Nothing}
-use Rattle.flat_model.specs.Pages.{page_of, offset_of}
-use Rattle.flat_model.specs.State.{Page, bytes_of}
-use Rattle.flat_model.specs.Step.{Outcome, puts, written}
+use Rattle.flat_model.specs.Pages.{page_of}
+use Rattle.flat_model.specs.State.{Page}
+use Rattle.flat_model.specs.Step.{Outcome, puts}
 use Rattle.data_path.specs.Store.{memory_of}
 use Rattle.data_path.proofs.Framing.{frame_open, changed_open_at}
 use Rattle.data_path.proofs.store.PageStore.write_part.Goals as goal
