@@ -23,10 +23,10 @@ returns-in_err-frame-clause-memory g c =
 pub page-requires : goal.page-requires
 page-requires g c =
     let named = frame_open c.args.store.now c.open.new.self c.args.space.0 c.args.addr _ c.in_ok-frame.frame c.in_ok-frame.ensures.opened in
-    omega (arith, (c.open.ensures.whole.taken.taken _ _ named).in_range, c.open.ensures.whole.arena)
+    omega (arith, (c.open.ensures.whole.fit.taken.taken _ _ named).in_range, c.open.ensures.whole.fit.arena)
 
 pub put-requires-clause-taken : goal.put-requires-clause-taken
-put-requires-clause-taken g c = c.open.ensures.whole.taken.taken _ _ (frame_open c.args.store.now c.open.new.self c.args.space.0 c.args.addr _ c.in_ok-frame.frame c.in_ok-frame.ensures.opened)
+put-requires-clause-taken g c = c.open.ensures.whole.fit.taken.taken _ _ (frame_open c.args.store.now c.open.new.self c.args.space.0 c.args.addr _ c.in_ok-frame.frame c.in_ok-frame.ensures.opened)
 
 pub returns-clause-reply : goal.returns-clause-reply
 returns-clause-reply g c =
