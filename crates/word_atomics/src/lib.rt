@@ -4,6 +4,9 @@
 //! at most one bucket and takes at most one page, and then reads the word and puts the new one in its place.
 #![tactic(auto)]
 
+#[cfg(test)]
+mod tests;
+
 ghost use Rattle.std.specs.Prelude.{◌≡◌, ◌+◌, ◌%◌, ◌<◌, ◌≤◌, length, IsSome};
 ghost use Rattle.std.specs.Int.{from_le_bytes, w64};
 ghost use Rattle.cl_types.specs.declared.limits.TheConstants.{ADDRESS_END, PAGE_BYTES};
@@ -76,21 +79,9 @@ fn word_after(op: AtomicOp, word: u64) -> u64
     ensures { result ≡ word_after op word }
 {
     match op {
-        AtomicOp::Lock => {
-            if word == 0 {
-                1
-            } else {
-                word
-            }
-        }
+        AtomicOp::Lock => { if word == 0 { 1 } else { word } }
         AtomicOp::Unlock => 0,
         AtomicOp::Add { n } => word.wrapping_add(n),
-        AtomicOp::Cas { expect, put } => {
-            if word == expect {
-                put
-            } else {
-                word
-            }
-        }
+        AtomicOp::Cas { expect, put } => { if word == expect { put } else { word } }
     }
 }
