@@ -7,3 +7,6 @@ pub mod Ranging
 pub mod Openings
 pub mod Pieces
 pub mod Offloads
+pub mod Laying
+pub mod Opened
+pub mod Judging

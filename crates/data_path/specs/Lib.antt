@@ -1,3 +1,5 @@
 pub mod Store
 pub mod Access
 pub mod Spaces
+pub mod Opened
+pub mod Laying

@@ -9,6 +9,7 @@
 //! page's entry, and takes at most one page. Only `PageStore::create` takes memory.
 #![tactic(auto)]
 
+mod create;
 mod need;
 mod opening;
 mod part;

@@ -1,0 +1,253 @@
+//! The opening of a store: the pages of the offloads are mapped, each with a frame of zeros.
+
+ghost use Rattle.std.specs.Prelude.{◌≡◌, ℕ, ◌+◌, ◌<◌, ◌≤◌, ◌==◌, ◌∷◌, ◌++◌, [], false, length, map, None, Err, IfErr, IfOk, OnOk, MatchOption, if◌then◌else◌};
+ghost use Rattle.index_lists.specs.NodeLists.{has};
+ghost use Rattle.page_arena.specs.Arena.{page_at};
+ghost use Rattle.cl_types.specs.declared.limits.TheConstants.{SPACE_PAGES};
+ghost use Rattle.cl_types.specs.Bytes.{fresh_bytes};
+ghost use Rattle.cl_types.specs.Config.{bad_number_of, offload_pages};
+ghost use Rattle.cl_types.specs.Places.{home_of};
+ghost use Rattle.hash_buckets.specs.PageMap.{load};
+ghost use Rattle.page_pool.specs.PoolPages.{free_list, free_pages, AreZero, IsReady};
+ghost use Rattle.flat_model.specs.Objects.{empty_object};
+ghost use Rattle.flat_model.specs.Opening.{open_fault};
+ghost use Rattle.flat_model.specs.Rows.{keys, AreFourAtMost};
+ghost use Rattle.flat_model.specs.State.{opening};
+
+use crate::store::PageStore;
+use cl_types::call::Perm;
+use cl_types::config::{NodeConfig, PageCounts, pages_of};
+use cl_types::items::NoMemory;
+use cl_types::numbers::{LAST_PID, PageNo, Space16, Vpn};
+use cl_types::page::Pte;
+use cl_types::steps::Steps;
+use flat_model::open_fault::OpenFault;
+use flat_model::opening;
+use hash_buckets::Table;
+use page_arena::PageArena;
+use page_pool::Pool;
+use std::alloc::Global;
+use std::marker::Brand;
+use std::sync::ledger::{Blank, Ledger};
+use translate_cache::Cache;
+
+/// How many entries of the table the cache has room for.
+const CACHED_ENTRIES: u32 = 64;
+
+// Why a node of this configuration doesn't open, if it doesn't: the flat machine tells it at its own opening. That a
+// number is bad or an offload has no room is told whether there is memory or not.
+fn judge(alloc: Global, config: &NodeConfig) -> Result<(), OpenFault>
+    ensures good { IfOk result (λ done. open_fault config.now ≡ None) }
+    ensures fault { MatchOption (open_fault config.now) (IfErr result (λ fault. fault ≡ OpenFault.NoMemory))
+        (λ fault. result ≡ Err fault) }
+{
+    opening::create(alloc, config)?;
+    Ok(())
+}
+
+// The span of a page of a range, by how many of its pages stand before it.
+fn span_of(before: u16, pages: u16) -> u16
+    ensures { result ≡ (if before == 0 then pages else 0) }
+{
+    if before == 0 { pages } else { 0 }
+}
+
+impl PageStore {
+    ghost use Rattle.data_path.specs.Store.{flat_of, held_places, memory_of, IsWhole};
+    ghost use Rattle.data_path.specs.Opened.{opened_memory};
+    ghost use Rattle.data_path.specs.Laying.{rows_from, rows_of, IsBehind, IsLaid};
+
+    /// The store of a node at its opening: the pages of the offloads are mapped for reading and writing, as one range
+    /// of each offload's space, with frames of zeros. It is refused as the flat machine refuses to open, or for want of
+    /// memory.
+    pub fn create(alloc: Global, config: &NodeConfig) -> Result<PageStore, OpenFault>
+        ensures fault { MatchOption (open_fault config.now) (IfErr result (λ fault. fault ≡ OpenFault.NoMemory))
+            (λ fault. result ≡ Err fault) }
+        ensures spaces { IfOk result (λ store. store.spaces ≡ map offload_pages config.now.offloads) }
+        ensures memory { IfOk result (λ store. memory_of store ≡ opened_memory config.now) }
+        ensures opened { IfOk result (λ store. flat_of (map empty_object config.now.offloads) (memory_of store)
+            ≡ opening config.now) }
+        ensures whole { IfOk result IsWhole }
+        ensures ready { IfOk result (λ store. IsReady store.pool) }
+    {
+        judge(alloc, config)?;
+        let mut store = PageStore::unmapped(alloc, config)?;
+        for offload in config.offloads.as_slice() {
+            store.add_offload(pages_of(offload) as u16)?;
+        }
+        Ok(store)
+    }
+
+    // The store of a node with no page mapped.
+    fn unmapped(alloc: Global, config: &NodeConfig) -> Result<PageStore, OpenFault>
+        requires good { bad_number_of config.now ≡ None }
+        ensures fault { IfErr result (λ fault. fault ≡ OpenFault.NoMemory) }
+        ensures laid { IfOk result IsLaid }
+        ensures entries { IfOk result (λ store. store.table.entries ≡ []) }
+        ensures buckets { IfOk result (λ store. store.table.buckets ≡ config.now.buckets) }
+        ensures pages { IfOk result (λ store. store.pool.pages ≡ config.now.pages) }
+        ensures spaces { IfOk result (λ store. store.spaces ≡ []) }
+    {
+        let pages = config.pages as u32;
+        let table = Table::create(alloc, config.buckets as u32)?;
+        let pool = Pool::create(alloc, pages, config.ring as u32)?;
+        let Ok(arena) = PageArena::create(alloc, pages) else {
+            return Err(OpenFault::NoMemory);
+        };
+        let cache = Cache::create(alloc, CACHED_ENTRIES)?;
+        Ok(PageStore {
+            table,
+            pool,
+            arena,
+            cache,
+            spaces: PageCounts::create(alloc),
+        })
+    }
+
+    // Maps the pages of one offload more as a range of its space.
+    fn add_offload(&mut self, pages: u16) -> Result<(), NoMemory>
+        requires laid { IsLaid self.old }
+        requires rows { rows_of self.old.table.entries ≡ rows_from 0 self.old.spaces }
+        requires few { length self.old.spaces < 16 }
+        requires within { pages < 65535 }
+        requires four { AreFourAtMost self.old.table.buckets (held_places 0 (self.old.spaces ++ pages ∷ [])) }
+        requires enough { length (held_places 0 (self.old.spaces ++ pages ∷ [])) ≤ self.old.pool.pages }
+        ensures laid { IsLaid self.new }
+        ensures rows { OnOk result (rows_of self.new.table.entries ≡ rows_from 0 self.new.spaces) }
+        ensures spaces { OnOk result (self.new.spaces ≡ self.old.spaces ++ pages ∷ []) }
+        ensures buckets { self.new.table.buckets ≡ self.old.table.buckets }
+        ensures pages { self.new.pool.pages ≡ self.old.pool.pages }
+    {
+        let space = Space16(LAST_PID + 1 + self.spaces.as_slice().len() as u16);
+        for i in 0..pages {
+            self.add_page(space, Vpn(i + 1), span_of(i, pages));
+        }
+        self.spaces.push(u32::from(pages))
+    }
+
+    // Maps a page behind the others, with a frame of zeros.
+    fn add_page(&mut self, space: Space16, vpn: Vpn, span: u16)
+        requires laid { IsLaid self.old }
+        requires behind { IsBehind (space.0, vpn.0) (keys self.old.table.entries) }
+        requires good { vpn.0 < SPACE_PAGES }
+        requires room { load self.old.table (home_of self.old.table.buckets (space.0, vpn.0)) < 4 }
+        requires free { length self.old.table.entries < self.old.pool.pages }
+        ensures laid { IsLaid self.new }
+        ensures rows { rows_of self.new.table.entries
+            ≡ rows_of self.old.table.entries ++ ((space.0, vpn.0), span) ∷ [] }
+        ensures buckets { self.new.table.buckets ≡ self.old.table.buckets }
+        ensures pages { self.new.pool.pages ≡ self.old.pool.pages }
+        ensures spaces { self.new.spaces ≡ self.old.spaces }
+    {
+        let frame = self.take_frame::<Brand>(Blank::new(1));
+        let pte = Pte {
+            frame: Some(frame),
+            perm: Perm::ReadWrite,
+            span,
+        };
+        self.table.insert(space, vpn, pte);
+    }
+
+    // Takes a free page, whose bytes are zeros, and refills the pool.
+    fn take_frame<L: Ledger>(&mut self, blank: Blank) -> PageNo
+        requires name { blank.name ≡ L.name }
+        requires parts { blank.parts ≡ L.parts }
+        requires one { 0 < blank.parts }
+        requires ready { IsReady self.old.pool }
+        requires some { 0 < free_pages self.old.pool }
+        requires arena { length self.old.arena ≡ self.old.pool.pages }
+        requires zero { AreZero self.old.arena (self.old.pool.ring ++ self.old.pool.clean) }
+        ensures rest { self.new ≡ record self.old { pool = self.new.pool; arena = self.new.arena } }
+        ensures free { free_list self.old.pool ≡ result.0 ∷ free_list self.new.pool }
+        ensures pages { self.new.pool.pages ≡ self.old.pool.pages }
+        ensures ready { IsReady self.new.pool }
+        ensures arena { length self.new.arena ≡ length self.old.arena }
+        ensures zero { AreZero self.new.arena (self.new.pool.ring ++ self.new.pool.clean) }
+        ensures zeros { page_at self.new.arena result.0 ≡ fresh_bytes }
+        ensures others { (page : ℕ) → has (free_list self.old.pool) page ≡ false
+            → page_at self.new.arena page ≡ page_at self.old.arena page }
+    {
+        let mut takes = Steps::<L>::create(blank);
+        let Some(frame) = self.pool.take(&mut takes) else {
+            unreachable!()
+        };
+        self.pool.refill(&mut self.arena);
+        frame
+    }
+}
+
+#[cfg(test)]
+mod tests {
+    use super::*;
+    use cl_types::config::{Field, OffloadConfig, OffloadList};
+    use std::test::Fail;
+
+    /// A node of so many pages and buckets, with a store of each of these numbers of records.
+    fn node(
+        alloc: Global,
+        pages: u64,
+        buckets: u64,
+        records: &[u64],
+    ) -> Result<NodeConfig, NoMemory> {
+        let mut offloads = OffloadList::create(alloc);
+        for records in records {
+            offloads.push(OffloadConfig::Kv { records: *records })?;
+        }
+        Ok(NodeConfig {
+            pages,
+            buckets,
+            ring: 1,
+            retry: 4,
+            offloads,
+        })
+    }
+
+    fn opened(
+        alloc: Global,
+        pages: u64,
+        buckets: u64,
+        records: &[u64],
+    ) -> Result<PageStore, OpenFault> {
+        PageStore::create(alloc, &node(alloc, pages, buckets, records)?)
+    }
+
+    /// The entry of a page with this frame.
+    fn held(frame: u32, span: u16) -> Option<Pte> {
+        let (frame, perm) = (Some(PageNo(frame)), Perm::ReadWrite);
+        Some(Pte { frame, perm, span })
+    }
+
+    #[test]
+    fn the_pages_of_the_offloads_are_mapped(rt: HostRuntime) -> Result<(), Fail> {
+        let Ok(store) = opened(rt.alloc(), 16, 8, &[2, 1]) else {
+            return Err(Fail::new("it does not open"));
+        };
+        assert_eq!(rt; store.spaces.as_slice(), &[2, 2][..]);
+        let (first, second) = (Space16(65280), Space16(65281));
+        assert_eq!(rt; store.table.peek(first, Vpn(0)), None);
+        assert_eq!(rt; store.table.peek(first, Vpn(1)), held(0, 2));
+        assert_eq!(rt; store.table.peek(first, Vpn(2)), held(1, 0));
+        assert_eq!(rt; store.table.peek(first, Vpn(3)), None);
+        assert_eq!(rt; store.table.peek(second, Vpn(1)), held(2, 2));
+        assert_eq!(rt; store.table.peek(second, Vpn(2)), held(3, 0));
+        assert_eq!(rt; store.pool.free_count(), 12);
+        Ok(())
+    }
+
+    #[test]
+    fn a_store_is_refused_by_its_first_fault(rt: HostRuntime) -> Result<(), Fail> {
+        let alloc = rt.alloc();
+        let seven = OpenFault::BadConfig {
+            field: Field::Buckets,
+            value: 7,
+        };
+        assert_eq!(rt; opened(alloc, 16, 7, &[]).err(), Some(seven));
+        // The pages of the node, and the buckets, hold those of the first offloads and no more.
+        let no_room = |offload, pages| Some(OpenFault::NoRoom { offload, pages });
+        assert_eq!(rt; opened(alloc, 1, 8, &[2]).err(), no_room(0, 2));
+        assert_eq!(rt; opened(alloc, 3, 8, &[2, 1]).err(), no_room(1, 2));
+        assert_eq!(rt; opened(alloc, 16, 2, &[2, 100]).err(), no_room(1, 9));
+        assert_eq!(rt; opened(alloc, 4, 8, &[2, 1]).err(), None);
+        Ok(())
+    }
+}
