@@ -14,7 +14,7 @@ use Rattle.call_cut.specs.declared.outcome.Outcome.{Outcome}
 use Rattle.call_cut.specs.declared.outcome.Outcome.TheVariants as outcome
 use Rattle.call_cut.specs.Fills.{fills, before}
 
--- the reply has the request's kind, and is as long as it asks, for an Offload at most as long
+-- a refusal; else a value of the request's kind, as long as it asks, for an Offload at most as long
 abbrev pub is_reply_to : Request → Reply → Bool
 is_reply_to q (reply.Refused refusal) = true
 is_reply_to (request.Alloc pages perm) (reply.At addr) = true

@@ -5,7 +5,7 @@ use Rattle.cl_types.specs.declared.reply.Part.{Part}
 use Rattle.cl_types.specs.Parts.{same_part}
 use Rattle.client_retry.specs.declared.flown.Flown.{Flown}
 
--- the parts in flight, in order of call and then of part, and the latest moment that the flight was given
+-- the parts in flight, in order of call and then of part, and the latest moment at which a part was sent or sent again
 pub record Flights : Type 0 where
   pub flown : List Flown
   pub last : ℕ

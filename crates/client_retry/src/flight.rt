@@ -40,7 +40,7 @@ pub struct Flight {
     chains: Lists,
     // How many parts are in flight.
     count: u32,
-    // The latest moment that it was given, in ticks.
+    // The latest moment at which a part was sent or sent again, in ticks.
     last: u64,
 }
 

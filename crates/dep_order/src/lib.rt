@@ -1,8 +1,8 @@
 //! Which of a client's calls that have not ended may go, and which wait for an earlier one.
 //!
-//! A call waits for an earlier one where both use a page and aren't both Reads, where both use an
-//! offload and an operation is odd, or where one of the two is a Fence: a Fence waits for all
-//! calls before it, and all later ones wait for the Fence until it has ended. A contract sees an
+//! A call waits for an earlier one where they have a page in common and aren't both Reads, where
+//! they use the same offload and an operation is odd, or where one of the two is a Fence: a Fence
+//! waits for all calls before it, and all later ones wait for the Fence until it has ended. A contract sees an
 //! `Order` as its calls in order of issue, each by its number and its footprint: what its order
 //! rests on. Only `create` takes memory.
 //!
