@@ -133,7 +133,7 @@ module _ (words : List Text) (after : Outside) (number read_faults write_faults 
   words_always false left v w never = ap (λ (u : Verdict). u.status) w.1
   words_always true left v w never = grind arith
 
-  pub bad_words_exactly : (left : Option (List ℕ)) → EndsWith words (from left) after number → Exactly (from left) after number 1 (built ≡ false)
+  pub bad_words_exactly : (left : Option (List ℕ)) → EndsWith words (from left) after number → Exactly (from left) after number status.BadWords (built ≡ false)
   bad_words_exactly left (st, is, end) = record {
     only = λ same. let wrote = ends_wrote words (from left) after status.BadWords tt (subst (Ends words (from left) after) (one_status st status.BadWords (sym is ∙ same)) end) in
         words_only built left wrote.v wrote.wants wrote.status;
@@ -150,7 +150,7 @@ module _ (words : List Text) (after : Outside) (number read_faults write_faults 
 
   module _ (st : Status) (final : IsFinal st) (never : status.BadWords ≡ st → ⊥) (Cause : List ℕ → Type 0)
       (only : (bytes : List ℕ) → (verdict bytes).status ≡ st → Cause bytes) (always : (bytes : List ℕ) → Cause bytes → (verdict bytes).status ≡ st) where
-    exactly_told : (bytes : List ℕ) → EndsWith words (from (Some bytes)) after number → Exactly (from (Some bytes)) after number (number_of st) (IsTrue built × Cause bytes)
+    exactly_told : (bytes : List ℕ) → EndsWith words (from (Some bytes)) after number → Exactly (from (Some bytes)) after number st (IsTrue built × Cause bytes)
     exactly_told bytes (end_status, is, end) = record {
       only = λ same. because (ends_wrote words (from (Some bytes)) after st final (subst (Ends words (from (Some bytes)) after) (one_status end_status st (sym is ∙ same)) end));
       always = λ cause calm. by cause (calm_end words (from (Some bytes)) after end_status calm end);
@@ -165,20 +165,20 @@ module _ (words : List Text) (after : Outside) (number read_faults write_faults 
           inl (is ∙ ap number_of (sym wrote.status ∙ ap (λ (u : Verdict). u.status) (told_verdict built bytes after.left wrote.v cause.0 wrote.wants) ∙ always bytes cause.1))
       by cause (inr none) = inr (is ∙ ap number_of none)
 
-    exactly_of : (left : Option (List ℕ)) → EndsWith words (from left) after number → ExactlyOf words (from left) after number (number_of st) Cause
+    exactly_of : (left : Option (List ℕ)) → EndsWith words (from left) after number → ExactlyOf words (from left) after number st Cause
     exactly_of None end = tt
     exactly_of (Some bytes) end = exactly_told bytes end
 
   apart : (st other : Status) → (number_of st ≡ number_of other → ⊥) → st ≡ other → ⊥
   apart st other never same = differs st other same never
 
-  pub bad_input_exactly : (left : Option (List ℕ)) → EndsWith words (from left) after number → ExactlyOf words (from left) after number 2 IsRefused
+  pub bad_input_exactly : (left : Option (List ℕ)) → EndsWith words (from left) after number → ExactlyOf words (from left) after number status.BadInput IsRefused
   bad_input_exactly = exactly_of status.BadInput tt (apart _ _ (λ same. omega (arith, same))) IsRefused is_refused refused_status
 
-  pub too_long_exactly : (left : Option (List ℕ)) → EndsWith words (from left) after number → ExactlyOf words (from left) after number 8 IsTooLong
+  pub too_long_exactly : (left : Option (List ℕ)) → EndsWith words (from left) after number → ExactlyOf words (from left) after number status.TooLong IsTooLong
   too_long_exactly = exactly_of status.TooLong tt (apart _ _ (λ same. omega (arith, same))) IsTooLong is_too_long too_long_status
 
-  pub bad_node_exactly : (left : Option (List ℕ)) → EndsWith words (from left) after number → ExactlyOf words (from left) after number 10 HasBadNode
+  pub bad_node_exactly : (left : Option (List ℕ)) → EndsWith words (from left) after number → ExactlyOf words (from left) after number status.BadNode HasBadNode
   bad_node_exactly = exactly_of status.BadNode tt (apart _ _ (λ same. omega (arith, same))) HasBadNode is_closed closed_status
 
   -- completeness

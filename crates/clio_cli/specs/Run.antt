@@ -81,15 +81,16 @@ pub record NoFault (before after : Outside) : Type 0 where
   pub read : Rose before.read_faults after.read_faults → ⊥
   pub write : Rose before.write_faults after.write_faults → ⊥
 
--- the status is n only from this cause, and from this cause it is n, unless a count of faults rose or there was no memory
-pub record Exactly (before after : Outside) (number n : ℕ) (Cause : Type 0) : Type 0 where
-  pub only : number ≡ n → Cause
-  pub always : Cause → NoFault before after → (number ≡ n) ⊎ (number ≡ number_of status.NoMemory)
+-- the number is this status's only from this cause, and from this cause it is, unless a count of faults rose or there was
+-- no memory
+pub record Exactly (before after : Outside) (number : ℕ) (st : Status) (Cause : Type 0) : Type 0 where
+  pub only : number ≡ number_of st → Cause
+  pub always : Cause → NoFault before after → (number ≡ number_of st) ⊎ (number ≡ number_of status.NoMemory)
 
 -- the same of a command whose source tells its bytes, of which the cause is
-abbrev pub ExactlyOf : List Text → Outside → Outside → ℕ → ℕ → (List ℕ → Type 0) → Type 0
-ExactlyOf words before after number n Cause =
-    IfSome before.left (λ bytes. Exactly before after number n (IsTrue (is_built_command (command_in words)) × Cause bytes))
+abbrev pub ExactlyOf : List Text → Outside → Outside → ℕ → Status → (List ℕ → Type 0) → Type 0
+ExactlyOf words before after number st Cause =
+    IfSome before.left (λ bytes. Exactly before after number st (IsTrue (is_built_command (command_in words)) × Cause bytes))
 
 -- where the words are a command, the source tells a schedule whose node opens, and no count of faults rose: its transcript
 -- was written, whole, and the status is that of success, or there was no memory

@@ -93,19 +93,19 @@ pub fn run<S: Source, K: Sink>(alloc: Global, words: &Words, source: &mut S, sin
     ensures bad_words { Exactly
         (outside (S.left source.old) (S.faults source.old) (K.written sink.old) (K.faults sink.old))
         (outside (S.left source.new) (S.faults source.new) (K.written sink.new) (K.faults sink.new))
-        result 1 (is_built_command (command_in words.now) ≡ false) }
+        result Status.BadWords (is_built_command (command_in words.now) ≡ false) }
     ensures bad_input { ExactlyOf words.now
         (outside (S.left source.old) (S.faults source.old) (K.written sink.old) (K.faults sink.old))
         (outside (S.left source.new) (S.faults source.new) (K.written sink.new) (K.faults sink.new))
-        result 2 IsRefused }
+        result Status.BadInput IsRefused }
     ensures too_long { ExactlyOf words.now
         (outside (S.left source.old) (S.faults source.old) (K.written sink.old) (K.faults sink.old))
         (outside (S.left source.new) (S.faults source.new) (K.written sink.new) (K.faults sink.new))
-        result 8 IsTooLong }
+        result Status.TooLong IsTooLong }
     ensures bad_node { ExactlyOf words.now
         (outside (S.left source.old) (S.faults source.old) (K.written sink.old) (K.faults sink.old))
         (outside (S.left source.new) (S.faults source.new) (K.written sink.new) (K.faults sink.new))
-        result 10 HasBadNode }
+        result Status.BadNode HasBadNode }
     ensures faults { FaultsAreCounted
         (outside (S.left source.old) (S.faults source.old) (K.written sink.old) (K.faults sink.old))
         (outside (S.left source.new) (S.faults source.new) (K.written sink.new) (K.faults sink.new))
