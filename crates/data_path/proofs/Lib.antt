@@ -4,7 +4,6 @@ pub mod Accesses
 pub mod Framing
 pub mod Spans
 pub mod Ranging
-pub mod Openings
 pub mod Pieces
 pub mod Offloads
 pub mod Laying

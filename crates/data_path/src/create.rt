@@ -1,12 +1,12 @@
 //! The opening of a store: the pages of the offloads are mapped, each with a frame of zeros.
 
-ghost use Rattle.std.specs.Prelude.{◌≡◌, ℕ, ◌+◌, ◌<◌, ◌≤◌, ◌==◌, ◌∷◌, ◌++◌, [], false, length, map, None, Err, IfErr, IfOk, OnOk, MatchOption, if◌then◌else◌};
+ghost use Rattle.std.specs.Prelude.{◌≡◌, ℕ, ◌+◌, ◌<◌, ◌≤◌, ◌==◌, ◌∷◌, ◌++◌, [], false, length, map, None, Err, IfErr, IfOk, IsTrue, OnOk, MatchOption, if◌then◌else◌};
 ghost use Rattle.index_lists.specs.NodeLists.{has};
 ghost use Rattle.page_arena.specs.Arena.{page_at};
 ghost use Rattle.cl_types.specs.declared.limits.TheConstants.{SPACE_PAGES};
 ghost use Rattle.cl_types.specs.Bytes.{fresh_bytes};
 ghost use Rattle.cl_types.specs.Config.{bad_number_of, offload_pages};
-ghost use Rattle.cl_types.specs.Places.{home_of};
+ghost use Rattle.cl_types.specs.Places.{home_of, is_bucket_count};
 ghost use Rattle.hash_buckets.specs.PageMap.{load};
 ghost use Rattle.page_pool.specs.PoolPages.{free_list, free_pages, AreZero, IsReady};
 ghost use Rattle.flat_model.specs.Objects.{empty_object};
@@ -38,6 +38,7 @@ const CACHED_ENTRIES: u32 = 64;
 // number is bad or an offload has no room is told whether there is memory or not.
 fn judge(alloc: Global, config: &NodeConfig) -> Result<(), OpenFault>
     ensures good { IfOk result (λ done. open_fault config.now ≡ None) }
+    ensures numbers { IfOk result (λ done. bad_number_of config.now ≡ None) }
     ensures fault { MatchOption (open_fault config.now) (IfErr result (λ fault. fault ≡ OpenFault.NoMemory))
         (λ fault. result ≡ Err fault) }
 {
@@ -53,7 +54,7 @@ fn span_of(before: u16, pages: u16) -> u16
 }
 
 impl PageStore {
-    ghost use Rattle.data_path.specs.Store.{flat_of, held_places, memory_of, IsWhole};
+    ghost use Rattle.data_path.specs.Store.{empty_memory, flat_of, held_places, memory_of, IsWhole};
     ghost use Rattle.data_path.specs.Opened.{opened_memory};
     ghost use Rattle.data_path.specs.Laying.{rows_from, rows_of, IsBehind, IsLaid};
 
@@ -71,28 +72,42 @@ impl PageStore {
         ensures ready { IfOk result (λ store. IsReady store.pool) }
     {
         judge(alloc, config)?;
-        let mut store = PageStore::unmapped(alloc, config)?;
+        let (pages, buckets) = (config.pages as u32, config.buckets as u32);
+        let mut store = PageStore::unmapped(alloc, pages, buckets, config.ring as u32)?;
         for offload in config.offloads.as_slice() {
             store.add_offload(pages_of(offload) as u16)?;
         }
         Ok(store)
     }
 
-    // The store of a node with no page mapped.
-    fn unmapped(alloc: Global, config: &NodeConfig) -> Result<PageStore, OpenFault>
-        requires good { bad_number_of config.now ≡ None }
-        ensures fault { IfErr result (λ fault. fault ≡ OpenFault.NoMemory) }
+    /// A store of so many pages, with no page mapped and no offload. `NoMemory` comes where an allocation was refused.
+    pub fn empty(alloc: Global, pages: u32, buckets: u32, ring: u32) -> Result<PageStore, NoMemory>
+        requires pages { pages ≤ 65536 }
+        requires buckets { IsTrue (is_bucket_count buckets) }
+        requires ring { 1 ≤ ring }
+        ensures empty { IfOk result (λ store. memory_of store ≡ empty_memory pages buckets) }
+        ensures spaces { IfOk result (λ store. store.spaces ≡ []) }
+        ensures whole { IfOk result IsWhole }
+        ensures ready { IfOk result (λ store. IsReady store.pool) }
+    {
+        PageStore::unmapped(alloc, pages, buckets, ring)
+    }
+
+    // The same, with all that is known of its parts.
+    fn unmapped(alloc: Global, pages: u32, buckets: u32, ring: u32) -> Result<PageStore, NoMemory>
+        requires pages { pages ≤ 65536 }
+        requires buckets { IsTrue (is_bucket_count buckets) }
+        requires ring { 1 ≤ ring }
         ensures laid { IfOk result IsLaid }
         ensures entries { IfOk result (λ store. store.table.entries ≡ []) }
-        ensures buckets { IfOk result (λ store. store.table.buckets ≡ config.now.buckets) }
-        ensures pages { IfOk result (λ store. store.pool.pages ≡ config.now.pages) }
+        ensures buckets { IfOk result (λ store. store.table.buckets ≡ buckets) }
+        ensures pages { IfOk result (λ store. store.pool.pages ≡ pages) }
         ensures spaces { IfOk result (λ store. store.spaces ≡ []) }
     {
-        let pages = config.pages as u32;
-        let table = Table::create(alloc, config.buckets as u32)?;
-        let pool = Pool::create(alloc, pages, config.ring as u32)?;
+        let table = Table::create(alloc, buckets)?;
+        let pool = Pool::create(alloc, pages, ring)?;
         let Ok(arena) = PageArena::create(alloc, pages) else {
-            return Err(OpenFault::NoMemory);
+            return Err(NoMemory);
         };
         let cache = Cache::create(alloc, CACHED_ENTRIES)?;
         Ok(PageStore {

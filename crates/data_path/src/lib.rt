@@ -11,7 +11,6 @@
 
 mod create;
 mod need;
-mod opening;
 mod part;
 mod range;
 mod space;

@@ -1,16 +1,12 @@
-use Rattle.data_path.specs.declared.store.PageStore.{PageStore}
-use Rattle.data_path.proofs.Openings.{whole_new}
+use Rattle.data_path.proofs.Opened.{if_ok_three, memory_unmapped, whole_unmapped}
 use Rattle.data_path.proofs.store.PageStore.empty.Goals as goal
 
+pub returns-clause-empty : goal.returns-clause-empty
+returns-clause-empty c =
+    if_ok_three c.unmapped.result (λ s none buckets pages. memory_unmapped s c.args.pages c.args.buckets none buckets pages) c.unmapped.ensures.entries c.unmapped.ensures.buckets c.unmapped.ensures.pages
+
 pub returns-clause-whole : goal.returns-clause-whole
-returns-clause-whole c =
-    let s : PageStore = record { table = c.in_ok-table.table; pool = c.in_ok-pool.pool; arena = c.in-Ok.arena; cache = c.in_ok-cache.cache; spaces = c.create-spaces.result } in
-    whole_new c.args.pages c.args.buckets c.args.ring 64 s (record {
-      table = c.in_ok-table.ensures.empty;
-      valid = c.in_ok-table.ensures.valid;
-      pool = c.in_ok-pool.ensures.free;
-      parted = c.in_ok-pool.ensures.parted;
-      arena = c.in-Ok.ensures;
-      cache = c.in_ok-cache.ensures.empty;
-      spaces = c.create-spaces.ensures;
-    })
+returns-clause-whole c = if_ok_three c.unmapped.result (λ s laid none spaces. whole_unmapped s laid none spaces) c.unmapped.ensures.laid c.unmapped.ensures.entries c.unmapped.ensures.spaces
+
+pub returns-clause-ready : goal.returns-clause-ready
+returns-clause-ready c = if_ok_three c.unmapped.result (λ s laid none spaces. laid.ready) c.unmapped.ensures.laid c.unmapped.ensures.entries c.unmapped.ensures.spaces
