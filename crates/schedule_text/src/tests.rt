@@ -1,7 +1,8 @@
 //! What no clause says: values from outside, and that calls succeed where memory is ample.
 
 use crate::{
-    CallWord, Kind, Reading, ScheduleFault, is_passed_over, kind_of, next_line, read, read_script, too_long,
+    CallWord, Kind, Reading, ScheduleFault, is_passed_over, kind_of, next_line, read, read_script,
+    too_long,
 };
 use cl_types::config::OffloadConfig;
 use cl_types::schedule::{CallText, Event, What};
@@ -159,6 +160,9 @@ fn a_schedule_is_read_line_by_line(rt: HostRuntime) -> Result<(), Fail> {
     assert!(rt; reading.node().is_some());
     assert_eq!(rt; [reading.clients().len(), reading.events().len()], [1, 1]);
     let schedule = reading.finish(5)?;
-    assert_eq!(rt; schedule.header.as_slice(), b"node 16 8 4 4\nclient 1 1\n".as_slice());
+    assert_eq!(rt;
+        schedule.header.as_slice(),
+        b"node 16 8 4 4\nclient 1 1\n".as_slice()
+    );
     Ok(())
 }
