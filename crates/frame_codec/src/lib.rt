@@ -1,7 +1,8 @@
 //! Frames, read where they lie and written in place.
 //!
 //! `read_request` and `read_reply` judge bytes that come from outside. `write_request`,
-//! `write_reply` and `write_got` spell a value at the start of a buffer. No call takes memory.
+//! `write_reply`, `write_got` and `write_small` spell a value at the start of a buffer. No call takes
+//! memory.
 //!
 //! A contract sees bytes as a list, and the view of a frame as its head and the request or reply
 //! that it borrows (`request_of`, `reply_of`); the view of a reply has its kind too. Which bytes
@@ -23,7 +24,7 @@ mod tests;
 mod views;
 
 pub use crate::reply_reader::read_reply;
-pub use crate::reply_writer::{write_got, write_reply};
+pub use crate::reply_writer::{write_got, write_reply, write_small};
 pub use crate::request_reader::read_request;
 pub use crate::request_writer::write_request;
 pub use crate::views::{ReplyView, RequestView};

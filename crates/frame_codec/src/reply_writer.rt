@@ -1,10 +1,12 @@
 //! Writes replies: the body first, since its length stands in the header.
 
-ghost use Rattle.std.specs.Prelude.{◌≡◌, ◌+◌, ◌≤◌, ◌++◌, drop, length, IsTrue};
+ghost use Rattle.std.specs.Prelude.{◌≡◌, ◌+◌, ◌≤◌, ◌∷◌, ◌++◌, drop, length, IsTrue};
 ghost use Rattle.cl_types.specs.Bytes.{bytes_at};
+ghost use Rattle.cl_types.specs.Kinds.{kind_number};
 ghost use Rattle.cl_types.specs.Requests.{reply_of};
+ghost use Rattle.cl_types.specs.SmallReplies.{value_of};
 ghost use Rattle.cl_types.specs.declared.reply.Reply.TheVariants as owned;
-ghost use Rattle.flat_model.specs.Frames.{IsHead, is_reply_of, reply_frame, reply_value, status_of};
+ghost use Rattle.flat_model.specs.Frames.{IsHead, frame_of, is_reply_of, reply_frame, reply_value, status_of};
 ghost use Rattle.frame_codec.specs.Parts.{reply_body};
 ghost use Rattle.frame_codec.specs.Writing.{IsWritten, may_carry};
 
@@ -14,6 +16,7 @@ use cl_types::call::Kind;
 use cl_types::frame::Head;
 use cl_types::limits::{FRAME_ROOM, PART_BYTES};
 use cl_types::reply::{Refusal, ReplyRef};
+use cl_types::small_reply::SmallReply;
 
 /// The status of a refusal.
 fn status_of(refusal: Refusal) -> u8
@@ -91,4 +94,31 @@ pub fn write_got(head: &Head, kind: Kind, len: usize, out: &mut [u8]) -> usize
     out[HEADER_BYTES] = 0;
     write_header(REPLY + kind.number(), head, 1 + len as u16, out);
     HEADER_BYTES + (1 + len)
+}
+
+/// Writes the status and the value of a small reply, and tells how many bytes they have.
+fn write_small_body(reply: &SmallReply, out: &mut [u8]) -> usize
+    requires room { 17 ≤ length out.old }
+    ensures len { result ≡ length (reply.now.status ∷ value_of reply.now) }
+    ensures short { result ≤ 17 }
+    ensures written { out.new ≡ (reply.now.status ∷ value_of reply.now) ++ drop result out.old }
+{
+    let value = reply.value();
+    out[0] = reply.status;
+    out[1..1 + value.len()].copy_from_slice(value);
+    1 + value.len()
+}
+
+/// Writes the reply to a request of this kind as it was kept, its status and its value undecoded, at
+/// the start of `out`, and tells how many bytes it has. The rest of `out` stays.
+pub fn write_small(head: &Head, kind: Kind, reply: &SmallReply, out: &mut [u8]) -> usize
+    requires { FRAME_ROOM ≤ length out.old }
+    ensures short { result ≤ 43 }
+    ensures written {
+        let body = reply.now.status ∷ value_of reply.now in
+        IsWritten (frame_of (128 + kind_number kind) head.now body) result out.old out.new }
+{
+    let len = write_small_body(reply, &mut out[HEADER_BYTES..]);
+    write_header(REPLY + kind.number(), head, len as u16, out);
+    HEADER_BYTES + len
 }
