@@ -114,8 +114,7 @@ fn write_small_body(reply: &SmallReply, out: &mut [u8]) -> usize
 pub fn write_small(head: &Head, kind: Kind, reply: &SmallReply, out: &mut [u8]) -> usize
     requires { FRAME_ROOM ≤ length out.old }
     ensures short { result ≤ 43 }
-    ensures written {
-        let body = reply.now.status ∷ value_of reply.now in
+    ensures written { let body = reply.now.status ∷ value_of reply.now in
         IsWritten (frame_of (128 + kind_number kind) head.now body) result out.old out.new }
 {
     let len = write_small_body(reply, &mut out[HEADER_BYTES..]);

@@ -8,6 +8,6 @@ pub returns-clause-written : goal.returns-clause-written
 returns-clause-written c =
     let body : List ℕ = c.args.reply.now.status ∷ value_of c.args.reply.now in
     let room : 26 ≤ length c.args.out.now = omega (arith, c.requires) in
-    rw (← c.kind_number.ensures)
-    (frame_written (128 + c.kind_number.result) c.args.head.now c.write_small_body-len.result body c.args.out.now _ _ c.write_small_body-len.ensures.len
+    rw (← c.number.ensures)
+    (frame_written (128 + c.number.result) c.args.head.now c.write_small_body-len.result body c.args.out.now _ _ c.write_small_body-len.ensures.len
     room c.write_small_body-len.auto.out c.write_small_body-len.ensures.written c.write_header.ensures)
