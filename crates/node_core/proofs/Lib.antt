@@ -1,0 +1,6 @@
+pub mod Recorded
+pub mod Smalls
+pub mod Parts
+pub mod Parted
+pub mod Pieces
+pub mod Memories

@@ -1,0 +1,5 @@
+pub mod Placed
+pub mod Keeping
+pub mod Fields
+pub mod Parted
+pub mod Stores

@@ -1,0 +1,137 @@
+//! `Node`: the keeping node over its pages.
+
+ghost use Rattle.std.specs.Prelude.{◌≡◌, ◌+◌, ◌≤◌, [], true, Err, IfErr, IfOk, MatchOption, length, option_map};
+ghost use Rattle.cl_types.specs.Bytes.{bytes_at};
+ghost use Rattle.cl_types.specs.declared.reply.Refusal.TheVariants.{NoMapping};
+ghost use Rattle.data_path.specs.Access.{IsPiece};
+ghost use Rattle.data_path.specs.Store.{IsWhole, flat_of, memory_of};
+ghost use Rattle.flat_model.specs.Frames.{request_in};
+ghost use Rattle.flat_model.specs.Handling.{latest};
+ghost use Rattle.flat_model.specs.Nodes.{node_answer, node_given, opening_node};
+ghost use Rattle.flat_model.specs.Opening.{open_fault};
+ghost use Rattle.flat_model.specs.Pages.{offset_of, page_of};
+ghost use Rattle.flat_model.specs.State.{bytes_of, page_at, used};
+ghost use Rattle.node_core.specs.Keeping.{Tells, shown_in};
+ghost use Rattle.node_core.specs.Placed.{is_access};
+ghost use Rattle.page_pool.specs.PoolPages.{IsReady};
+
+use crate::keeper::Keeper;
+use crate::memory::Memory;
+use crate::outcome::Outcome;
+use cl_types::config::{NodeConfig, bad_number};
+use cl_types::numbers::{Addr, Pid};
+use cl_types::reply::Refusal;
+use cl_types::steps::Steps;
+use data_path::PageStore;
+use flat_model::open_fault::OpenFault;
+use std::alloc::Global;
+use std::marker::Model;
+use std::sync::ledger::Ledger;
+
+/// A node without offloads. A clause sees it as the keeping node, and its latest moment.
+///
+/// `step` handles a frame; `last`, `peek`, `used`, `retained` and `store` only look.
+#[derive(Drop)]
+pub struct Node {
+    keeper: Keeper<Memory>,
+}
+
+impl Model for Node {
+    ghost use Rattle.node_core.specs.Keeping.{KeptNode};
+
+    ghost Value = { KeptNode };
+
+    ghost view = { λ n. n.keeper };
+}
+
+impl Node {
+    /// The node of a configuration without offloads at its opening, or why it doesn't open: a bad
+    /// number is told whether there is memory or not.
+    pub fn create(alloc: Global, config: &NodeConfig) -> Result<Node, OpenFault>
+        requires { config.now.offloads ≡ [] }
+        ensures opened { IfOk result (λ node. node ≡ record {
+          node = opening_node config.now;
+          last = 0;
+        }) }
+        ensures fault { MatchOption (open_fault config.now)
+            (IfErr result (λ fault. fault ≡ OpenFault.NoMemory)) (λ fault. result ≡ Err fault) }
+    {
+        if let Some((field, value)) = bad_number(config) {
+            return Err(OpenFault::BadConfig { field, value });
+        }
+        let memory = Memory::create(
+            alloc,
+            config.pages as u32,
+            config.buckets as u32,
+            config.ring as u32,
+        )?;
+        let keeper = Keeper::create(alloc, memory, config.retry as u32)?;
+        Ok(Node { keeper })
+    }
+
+    /// Handles the bytes of a datagram at the moment `now`, in ticks. The frame of a reply is written
+    /// at the start of `out`.
+    pub fn step<A: Ledger, B: Ledger>(
+        &mut self,
+        now: u64,
+        frame: &[u8],
+        out: &mut [u8],
+        reads: &mut Steps<A>,
+        takes: &mut Steps<B>,
+    ) -> Outcome
+        requires later { self.old.last ≤ now }
+        requires room { length out.old ≡ 1200 }
+        ensures node { self.new ≡ record {
+          node = node_given latest self.old.node now frame.now;
+          last = now;
+        } }
+        ensures answer { Tells frame.now (node_answer latest self.old.node now frame.now) result out.new }
+        ensures reads { is_access (request_in frame.now) ≡ true → reads.new ≤ reads.old + 1 }
+        ensures takes { is_access (request_in frame.now) ≡ true → takes.new ≤ takes.old + 1 }
+    {
+        self.keeper.step(now, frame, out, reads, takes)
+    }
+
+    /// The latest moment that the node was given, in ticks.
+    pub fn last(&self) -> u64
+        ensures { result ≡ self.now.last }
+    {
+        self.keeper.last()
+    }
+
+    /// Shows bytes of a page of a process, whatever its permission. It is refused exactly where the
+    /// page isn't mapped.
+    pub fn peek(&self, pid: Pid, addr: Addr, out: &mut [u8]) -> Result<(), Refusal>
+        requires { IsPiece addr (length out.old) }
+        ensures shown { shown_in result out.new ≡ option_map
+            (λ page. bytes_at (offset_of addr) (length out.old) (bytes_of page))
+            (page_at self.now.node.flat pid (page_of addr)) }
+        ensures refused { IfErr result (λ refusal. refusal ≡ NoMapping) }
+    {
+        self.keeper.machine().peek(pid, addr, out)
+    }
+
+    /// How many physical pages are taken.
+    pub fn used(&self) -> u32
+        ensures { result ≡ used self.now.node.flat }
+    {
+        self.keeper.machine().used()
+    }
+
+    /// How many replies are recorded.
+    pub fn retained(&self) -> u32
+        ensures count { result ≡ length self.now.node.records }
+        ensures within { result ≤ self.now.node.retry }
+    {
+        self.keeper.retained()
+    }
+
+    /// The page store in which the node keeps its pages.
+    pub fn store(&self) -> &PageStore
+        ensures whole { IsWhole result.now }
+        ensures ready { IsReady result.now.pool }
+        ensures memory { flat_of [] (memory_of result.now) ≡ self.now.node.flat }
+    {
+        self.keeper.machine().store()
+    }
+}
