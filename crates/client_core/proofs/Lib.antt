@@ -1,0 +1,17 @@
+pub mod Basics
+pub mod Flying
+pub mod Standing
+pub mod Ending
+pub mod Naming
+pub mod RowLemmas
+pub mod CallLemmas
+pub mod Edits
+pub mod Laws
+pub mod Sounds
+pub mod Issuing
+pub mod Deciding
+pub mod Polling
+pub mod Doing
+pub mod Written
+pub mod Ranges
+pub mod Hearings

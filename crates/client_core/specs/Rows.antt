@@ -1,0 +1,35 @@
+-- How the fields of a row stand for a call that has not ended. No public clause cites this module.
+use Rattle.std.specs.Prelude.{ℕ, ◌≡◌, ◌≤◌, List, length, map, count_by, is_none}
+use Rattle.cl_types.specs.declared.numbers.CallNo.{CallNo}
+use Rattle.cl_types.specs.declared.call.Call.{Call}
+use Rattle.flat_model.specs.Client.{Finished, emptied}
+use Rattle.flat_model.specs.Order.{Footprint}
+use Rattle.call_cut.specs.declared.outcome.Outcome.{Outcome}
+use Rattle.call_cut.specs.Came.{came}
+use Rattle.call_cut.specs.Taking.{Gathers}
+use Rattle.client_core.specs.declared.ended.Ended.{Ended}
+use Rattle.client_core.specs.Held.{Held, print_of}
+
+-- what a row stands for
+abbrev pub held_in : CallNo → Call → List Outcome → ℕ → Held
+held_in number k gather sent = record { number = number.0; call = emptied k; came = came gather k; sent = sent }
+
+-- what holds of a row at every moment
+pub record IsRow (k : Call) (gather : List Outcome) (parts sent waiting : ℕ) : Type 0 where
+  pub gathers : Gathers gather k
+  pub all_parts : parts ≡ length (came gather k)
+  pub few : parts ≤ 65
+  pub sent_of_them : sent ≤ parts
+  -- how many parts nothing has come of
+  pub still_waiting : waiting ≡ count_by is_none (came gather k)
+
+-- an ended call, as a contract sees it
+abbrev pub finished_of : Ended → Finished
+finished_of e = record { number = e.no.0; answer = e.answer; call = e.call }
+
+-- what holds of the rows, their order and the room at every moment
+pub record AreKept (held : List Held) (order : List (ℕ × Footprint)) (room room_for_ended : ℕ) : Type 0 where
+  pub ordered : order ≡ map print_of held
+  -- so taking a call and ending one takes no memory
+  pub reserved : 256 ≤ room
+  pub reserved_for_ended : 256 ≤ room_for_ended
