@@ -19,11 +19,11 @@ record Stays (r : Reading) : Type 0 where
   few : leb (length r.clients) 1 ≡ true
   each : Each (λ (e : ℕ × Event). is_built_for r.clients (Some e) ≡ true) r.events
 
-and_left : (a b : Bool) → (a && b) ≡ true → a ≡ true
+pub and_left : (a b : Bool) → (a && b) ≡ true → a ≡ true
 and_left true b both = refl
 and_left false b both = grind arith
 
-and_right : (a b : Bool) → (a && b) ≡ true → b ≡ true
+pub and_right : (a b : Bool) → (a && b) ≡ true → b ≡ true
 and_right true b both = both
 and_right false b both = grind arith
 
@@ -46,7 +46,7 @@ at_last : {A : Type 0} (xs : List A) (x : A) → slice_get (xs ++ x ∷ []) (len
 at_last [] x = refl
 at_last (y ∷ xs) x = at_last xs x
 
-last_of : {A : Type 0} (xs : List A) (x : A) → slice_get (xs ++ x ∷ []) (length (xs ++ x ∷ []) - 1) ≡ Some x
+pub last_of : {A : Type 0} (xs : List A) (x : A) → slice_get (xs ++ x ∷ []) (length (xs ++ x ∷ []) - 1) ≡ Some x
 last_of xs x =
     let n : length (xs ++ x ∷ []) ≡ length xs + 1 = length-append xs (x ∷ []) in
     let same : length (xs ++ x ∷ []) - 1 ≡ length xs = omega (arith, n) in

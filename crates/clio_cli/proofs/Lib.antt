@@ -7,7 +7,9 @@ pub mod Few
 pub mod ReplayLemmas
 pub mod WordLemmas
 pub mod ReadLemmas
+pub mod KindLemmas
 pub mod BuiltLemmas
+pub mod TakenLemmas
 pub mod VerdictLemmas
 pub mod RunLemmas
 pub mod HeadlineLemmas

@@ -15,25 +15,26 @@ no_value fault x is = grind arith
 pub got : {A B : Type 0} (x y : A) → ◌≡◌ {A = Result A B} (Ok x) (Ok y) → x ≡ y
 got x y is = cc
 
--- the line says this, and it was added
+-- the line says this at its place, and it was added
 pub record Adds (r : Reading) (n : ℕ) (line : Text) (more : Reading) : Type 0 where
   pub said : Said
   pub says : said_by_words (words_in line) ≡ Ok said
+  pub placed : first_fault (place_faults r line (first_word (words_in line))) ≡ None
   pub added : more ≡ read_more r n line said
 
 module _ (r : Reading) (n : ℕ) (line : Text) (more : Reading) where
-  adds_said : (o : Result Said What) → said_by_words (words_in line) ≡ o → judged_said r n line o ≡ Ok more → Adds r n line more
-  adds_said (Err what) says is = absurd (no_value (n, what) more is)
-  adds_said (Ok said) says is = step (first_fault (said_faults r said)) is where
+  adds_said : first_fault (place_faults r line (first_word (words_in line))) ≡ None → (o : Result Said What) → said_by_words (words_in line) ≡ o → judged_said r n line o ≡ Ok more → Adds r n line more
+  adds_said placed (Err what) says is = absurd (no_value (n, what) more is)
+  adds_said placed (Ok said) says is = step (first_fault (said_faults r said)) is where
     step : (o : Option What) → ◌≡◌ {A = Result Reading Fault} (elim o [ Some what ↦ Err (n, what) | None ↦ Ok (read_more r n line said) ]) (Ok more) → Adds r n line more
     step (Some what) is = absurd (no_value (n, what) more is)
-    step None is = record { said = said; says = says; added = sym (got _ more is) }
+    step None is = record { said = said; says = says; placed = placed; added = sym (got _ more is) }
 
-  adds_judged : judged_line r n line ≡ Ok more → Adds r n line more
-  adds_judged is = step (first_fault (place_faults r line (first_word (words_in line)))) is where
-    step : (o : Option What) → ◌≡◌ {A = Result Reading Fault} (elim o [ Some what ↦ Err (n, what) | None ↦ judged_said r n line (said_by_words (words_in line)) ]) (Ok more) → Adds r n line more
-    step (Some what) is = absurd (no_value (n, what) more is)
-    step None is = adds_said (said_by_words (words_in line)) refl is
+  pub adds_judged : judged_line r n line ≡ Ok more → Adds r n line more
+  adds_judged is = step (first_fault (place_faults r line (first_word (words_in line)))) refl is where
+    step : (o : Option What) → first_fault (place_faults r line (first_word (words_in line))) ≡ o → ◌≡◌ {A = Result Reading Fault} (elim o [ Some what ↦ Err (n, what) | None ↦ judged_said r n line (said_by_words (words_in line)) ]) (Ok more) → Adds r n line more
+    step (Some what) placed is = absurd (no_value (n, what) more is)
+    step None placed is = adds_said placed (said_by_words (words_in line)) refl is
 
   -- a line that was read was skipped, or was added
   pub line_adds : line_read r n line ≡ Ok more → (more ≡ r) ⊎ Adds r n line more

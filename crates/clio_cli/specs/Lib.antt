@@ -6,6 +6,7 @@ pub mod Engine
 pub mod Stands
 pub mod Built
 pub mod BuiltReading
+pub mod BuiltLaw
 pub mod Replay
 pub mod Words
 pub mod Status

@@ -1,5 +1,6 @@
-//! The law that joins the engine to the account of a schedule, and what the account of every schedule keeps.
+//! The laws that join what is built to the grammar and to the account of a schedule, and what every account keeps.
 
+ghost use Rattle.clio_cli.specs.BuiltLaw.{BuiltIsTheGrammar};
 ghost use Rattle.clio_cli.specs.Headline.{LawOfHeadline};
 ghost use Rattle.clio_cli.specs.Stands.{EngineStands};
 
@@ -15,4 +16,10 @@ pub fn engine_stands()
 /// and any other at most once; a client's dependent calls stand in issue order; every peek shows the run's memory.
 pub fn headline()
     ensures { LawOfHeadline }
+{}
+
+/// A schedule of the grammar is taken exactly where each of its lines is built, and an input that is refused for a bad
+/// line has that line as its first bad one by the grammar.
+pub fn built_is_the_grammar()
+    ensures { BuiltIsTheGrammar }
 {}

@@ -26,6 +26,6 @@ mod tests;
 mod top;
 mod words;
 
-pub use laws::{engine_stands, headline};
+pub use laws::{built_is_the_grammar, engine_stands, headline};
 pub use top::run;
 pub use words::Words;
