@@ -1,4 +1,4 @@
--- What is looked up in a history.
+-- What is looked up in a history. No public clause cites this module.
 use Rattle.std.specs.Prelude.{Bool, ◌&&◌}
 use Rattle.cl_types.specs.Requests.{is_changing}
 use Rattle.cl_types.specs.declared.line.Entry.{Entry}

@@ -1,4 +1,4 @@
--- The loop over the events of a schedule.
+-- The loop over the events of a schedule. No public clause cites this module.
 use Rattle.std.specs.Prelude.{◌≡◌, ℕ, ◌+◌, ◌≤◌, true, List, [], ◌∷◌, ◌++◌, flat_map, length}
 use Rattle.std.specs.List.{AllByRecursion as Each}
 use Rattle.cl_types.specs.declared.config.Config.{Config}

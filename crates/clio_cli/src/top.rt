@@ -43,7 +43,8 @@ fn replay<S: Source>(alloc: Global, source: &mut S) -> Result<Output, Halt>
         Ok(bytes) => Ok(judge(alloc, &bytes)?),
         Err(Stop::ReadFault) => Err(Halt::ReadFault),
         Err(Stop::TooLong) => Ok(output_of(alloc, b"too long: bytes 16777217\n", Status::TooLong)?),
-        Err(Stop::NoMemory) | Err(Stop::WriteFault) => Err(Halt::NoMemory),
+        Err(Stop::NoMemory) => Err(Halt::NoMemory),
+        Err(Stop::WriteFault) => unreachable!(),
     }
 }
 
