@@ -46,6 +46,7 @@ impl PageStore {
         ensures hit { IsSome (cached_entry self.old.cache (space.0, page_of addr))
             → reads.new ≡ reads.old }
         ensures latest { IsLatest self.new.cache (space.0, page_of addr) }
+        ensures spaces { self.new.spaces ≡ self.old.spaces }
     {
         let pte = self.find(space, addr, Need::Read, reads)?;
         match pte.frame {
@@ -82,6 +83,7 @@ impl PageStore {
             → reads.new ≡ reads.old }
         ensures taken { takes.new ≤ takes.old + 1 }
         ensures latest { IsLatest self.new.cache (space.0, page_of addr) }
+        ensures spaces { self.new.spaces ≡ self.old.spaces }
     {
         let frame = self.open(space, addr, Need::Write, reads, takes)?;
         self.put(frame, offset_of(addr), bytes);

@@ -34,6 +34,7 @@ impl PageStore {
             ≡ (alloc (memory_of self.old) space.0 pages perm).state }
         ensures whole { IsWhole self.new }
         ensures ready { IsReady self.new.pool }
+        ensures spaces { self.new.spaces ≡ self.old.spaces }
     {
         match map_range(&mut self.table, space, pages, perm) {
             Some(start) => Ok(Addr(u32::from(start.0) * PAGE_BYTES)),
@@ -55,6 +56,7 @@ impl PageStore {
             ≡ (free (memory_of self.old) space.0 addr pages).state }
         ensures whole { IsWhole self.new }
         ensures ready { IsReady self.new.pool }
+        ensures spaces { self.new.spaces ≡ self.old.spaces }
     {
         let start = page_of(addr);
         if !unmap_range(&mut self.table, &mut self.pool, space, start, pages) {

@@ -81,6 +81,7 @@ impl PageStore {
             → reads.new ≡ reads.old }
         ensures taken { takes.new ≤ takes.old + 1 }
         ensures latest { IsLatest self.new.cache (space.0, page_of addr) }
+        ensures spaces { self.new.spaces ≡ self.old.spaces }
     {
         let pte = self.find(space, addr, need, reads)?;
         match self.frame_of(space, page_of(addr), pte, takes) {
@@ -141,6 +142,7 @@ impl PageStore {
         ensures taken { takes.new ≤ takes.old + 1 }
         ensures latest { IsLatest self.old.cache (space.0, vpn.0)
             → IsLatest self.new.cache (space.0, vpn.0) }
+        ensures spaces { self.new.spaces ≡ self.old.spaces }
     {
         if let Some(frame) = pte.frame {
             return Some(frame);

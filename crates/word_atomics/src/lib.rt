@@ -48,6 +48,7 @@ pub fn apply<A: Ledger, B: Ledger>(
         → reads.new ≡ reads.old }
     ensures taken { takes.new ≤ takes.old + 1 }
     ensures latest { IsLatest store.new.cache (space.0, page_of addr) }
+    ensures spaces { store.new.spaces ≡ store.old.spaces }
 {
     let frame = store.open(space, addr, Need::Change, reads, takes)?;
     let at = offset_of(addr);
