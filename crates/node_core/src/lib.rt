@@ -20,8 +20,6 @@ mod node;
 mod outcome;
 mod pages;
 mod placed;
-#[cfg(test)]
-mod tests;
 
 pub use keeper::Keeper;
 pub use machine::Machine;
