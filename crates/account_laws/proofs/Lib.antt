@@ -36,6 +36,7 @@ pub mod NodeLines
 pub mod ReadSchedules
 pub mod StandsKept
 pub mod SpanKept
+pub mod Retained
 pub mod Pieces
 pub mod LocksKept
 pub mod SoundStates

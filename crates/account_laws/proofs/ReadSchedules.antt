@@ -32,10 +32,10 @@ use Rattle.account_laws.proofs.Lists.{each_append, each_weaker}
 use Rattle.account_laws.proofs.SameParts.{and_left, and_right}
 
 -- ---- results and options
-no_ok : {A E : Type 0} (e : E) (x : A) → ◌≡◌ {A = Result A E} (Err e) (Ok x) → ⊥
+pub no_ok : {A E : Type 0} (e : E) (x : A) → ◌≡◌ {A = Result A E} (Err e) (Ok x) → ⊥
 no_ok e x is = grind arith
 
-ok_is : {A E : Type 0} (x y : A) → ◌≡◌ {A = Result A E} (Ok x) (Ok y) → x ≡ y
+pub ok_is : {A E : Type 0} (x y : A) → ◌≡◌ {A = Result A E} (Ok x) (Ok y) → x ≡ y
 ok_is x y is = cc
 
 some_is : {A : Type 0} (x y : A) → ◌≡◌ {A = Option A} (Some x) (Some y) → x ≡ y
@@ -296,10 +296,16 @@ by_word_is {A} Q (f ∷ fs) each word x is = go (is_text word f.0) is (by_word_i
   go false is rest = rest is
 
 -- ---- lines
+-- time goes on by 1 to 1,000,000,000 ticks, and at least one byte is looked at
+abbrev pub IsMeasured : Event → Type 0
+IsMeasured (event.Tick by) = (1 ≤ by) × (by ≤ 1000000000)
+IsMeasured (event.Peek pid addr len) = 1 ≤ len
+IsMeasured other = Unit {0}
+
 -- what a line may say: a client whose numbers a frame can carry, an event with numbers of its types
-abbrev IsSaid : Said → Type 0
+abbrev pub IsSaid : Said → Type 0
 IsSaid (Client number pid) = IsClient (number, pid)
-IsSaid (Happens event) = is_typed event ≡ true
+IsSaid (Happens event) = (is_typed event ≡ true) × IsMeasured event
 IsSaid other = Unit {0}
 
 abbrev Says : (List Value → Option Said) → List Value → Type 0
@@ -321,11 +327,11 @@ fails : (what : What) (ws : List Text) → IsBegun (Err what, ws)
 fails what ws f is = absurd (no_ok what f is)
 
 -- a line of one number
-one_number : (low high : ℕ) (make : ℕ → Event) → ((n : ℕ) → is_typed (make n) ≡ true) → (values : List Value) → FitAll (Number low high ∷ []) values → Says (of_number make) values
-one_number low high make typed = by_number (Says (of_number make)) low high [] (λ n vs from to. by_none (λ vs. Says (of_number make) (N n ∷ vs)) (said_so (Happens (make n)) (typed n)) vs)
+one_number : (low high : ℕ) (make : ℕ → Event) → ((n : ℕ) → low ≤ n → n ≤ high → IsSaid (Happens (make n))) → (values : List Value) → FitAll (Number low high ∷ []) values → Says (of_number make) values
+one_number low high make good = by_number (Says (of_number make)) low high [] (λ n vs from to. by_none (λ vs. Says (of_number make) (N n ∷ vs)) (said_so (Happens (make n)) (good n from to)) vs)
 
-no_argument : (e : Event) → is_typed e ≡ true → (values : List Value) → FitAll [] values → Says (bare e) values
-no_argument e typed = by_none (Says (bare e)) (said_so (Happens e) typed)
+no_argument : (e : Event) → IsSaid (Happens e) → (values : List Value) → FitAll [] values → Says (bare e) values
+no_argument e good = by_none (Says (bare e)) (said_so (Happens e) good)
 
 call_begins : (ws : List Text) → IsBegun (in_call ws)
 call_begins [] = fails MissingWord []
@@ -336,7 +342,7 @@ call_begins (number ∷ word ∷ ws) = go (by_word word call_forms) refl where
     so : (n : ℕ) (vs : List Value) → FitAll f.arguments vs → (said : Said) → (o : Option CallText) → f.calls vs ≡ o
         → option_map (λ (c : CallText). Happens (event.Call (record { 0 = n }) c)) o ≡ Some said → IsSaid said
     so n vs fit said None found is = absurd (no_some said is)
-    so n vs fit said (Some c) found is = said_so (Happens (event.Call (record { 0 = n }) c)) (good vs fit c found) said is
+    so n vs fit said (Some c) found is = said_so (Happens (event.Call (record { 0 = n }) c)) (good vs fit c found, tt) said is
 
   go : (o : Option CallForm) → by_word word call_forms ≡ o → IsBegun (call_form o, number ∷ ws)
   go None found = fails UnknownWord (number ∷ ws)
@@ -354,16 +360,16 @@ deliver_begins : (ws : List Text) → IsBegun (in_deliver ws)
 deliver_begins [] = fails MissingWord []
 deliver_begins (word ∷ ws) = go (is_text word (codes "next")) where
   go : (b : Bool) → IsBegun (cond b (form [] (bare event.DeliverNext), ws) (form (Number 1 4294967295 ∷ []) (of_number event.Deliver), word ∷ ws))
-  go true = begins [] (bare event.DeliverNext) ws (no_argument event.DeliverNext refl)
-  go false = begins (Number 1 4294967295 ∷ []) (of_number event.Deliver) (word ∷ ws) (one_number 1 4294967295 event.Deliver (λ n. refl))
+  go true = begins [] (bare event.DeliverNext) ws (no_argument event.DeliverNext (refl, tt))
+  go false = begins (Number 1 4294967295 ∷ []) (of_number event.Deliver) (word ∷ ws) (one_number 1 4294967295 event.Deliver (λ n from to. (refl, tt)))
 
 garbage_begins : (ws : List Text) → IsBegun (in_garbage ws)
 garbage_begins [] = fails MissingWord []
 garbage_begins (word ∷ ws) = go (is_text word (codes "node")) where
   go : (b : Bool) → IsBegun (cond b (form (BytesWord ∷ []) garbage_node_says, ws) (form (u16 ∷ BytesWord ∷ []) garbage_client_says, word ∷ ws))
-  go true = begins (BytesWord ∷ []) garbage_node_says ws (by_bytes (Says garbage_node_says) [] (λ w vs bytes. by_none (λ vs. Says garbage_node_says (B w ∷ vs)) (said_so (Happens (event.GarbageNode w)) refl) vs))
+  go true = begins (BytesWord ∷ []) garbage_node_says ws (by_bytes (Says garbage_node_says) [] (λ w vs bytes. by_none (λ vs. Says garbage_node_says (B w ∷ vs)) (said_so (Happens (event.GarbageNode w)) (refl, tt)) vs))
   go false = begins (u16 ∷ BytesWord ∷ []) garbage_client_says (word ∷ ws) (by_number (Says garbage_client_says) 0 65535 (BytesWord ∷ []) (λ n vs from to. by_bytes (λ vs. Says garbage_client_says (N n ∷ vs)) [] (λ w vs bytes.
-      by_none (λ vs. Says garbage_client_says (N n ∷ B w ∷ vs)) (said_so (Happens (event.GarbageClient (record { 0 = n }) w)) refl) vs) vs))
+      by_none (λ vs. Says garbage_client_says (N n ∷ B w ∷ vs)) (said_so (Happens (event.GarbageClient (record { 0 = n }) w)) (refl, tt)) vs) vs))
 
 forms_of_lines : (ws : List Text) → Each (λ (f : Text × Begun). IsBegun f.1) (line_forms ws)
 forms_of_lines ws = (
@@ -379,20 +385,20 @@ forms_of_lines ws = (
       (
         call_begins ws,
         (
-          begins (u16 ∷ []) (of_number (λ n. event.Poll (record { 0 = n }))) ws (one_number 0 65535 (λ n. event.Poll (record { 0 = n })) (λ n. refl)),
+          begins (u16 ∷ []) (of_number (λ n. event.Poll (record { 0 = n }))) ws (one_number 0 65535 (λ n. event.Poll (record { 0 = n })) (λ n from to. (refl, tt))),
           (
             deliver_begins ws,
             (
-              begins [] (bare event.Drop) ws (no_argument event.Drop refl),
+              begins [] (bare event.Drop) ws (no_argument event.Drop (refl, tt)),
               (
-                begins (Number 1 1000000000 ∷ []) (of_number event.Tick) ws (one_number 1 1000000000 event.Tick (λ n. refl)),
+                begins (Number 1 1000000000 ∷ []) (of_number event.Tick) ws (one_number 1 1000000000 event.Tick (λ n from to. (refl, (from, to)))),
                 (
                   begins (process_number ∷ Address ∷ Number 1 PART_BYTES ∷ []) peek_says ws (by_number (Says peek_says) 1 LAST_PID (Address ∷ Number 1 PART_BYTES ∷ []) (λ pid vs from to. by_address (λ vs. Says peek_says (N pid ∷ vs)) (Number 1 PART_BYTES ∷ []) (λ addr vs low.
-                      by_number (λ vs. Says peek_says (N pid ∷ A addr ∷ vs)) 1 PART_BYTES [] (λ len vs first last. by_none (λ vs. Says peek_says (N pid ∷ A addr ∷ N len ∷ vs)) (said_so (Happens (event.Peek pid addr len)) refl) vs) vs) vs)),
+                      by_number (λ vs. Says peek_says (N pid ∷ A addr ∷ vs)) 1 PART_BYTES [] (λ len vs first last. by_none (λ vs. Says peek_says (N pid ∷ A addr ∷ N len ∷ vs)) (said_so (Happens (event.Peek pid addr len)) (refl, first)) vs) vs) vs)),
                   (
-                    begins (Number 1 4294967295 ∷ []) (of_number event.Show) ws (one_number 1 4294967295 event.Show (λ n. refl)),
+                    begins (Number 1 4294967295 ∷ []) (of_number event.Show) ws (one_number 1 4294967295 event.Show (λ n from to. (refl, tt))),
                     (
-                      begins [] (bare event.Stat) ws (no_argument event.Stat refl),
+                      begins [] (bare event.Stat) ws (no_argument event.Stat (refl, tt)),
                       (garbage_begins ws, tt),
                     ),
                   ),
@@ -406,7 +412,7 @@ forms_of_lines ws = (
   ),
 )
 
-words_say : (texts : List Text) (said : Said) → said_by_words texts ≡ Ok said → IsSaid said
+pub words_say : (texts : List Text) (said : Said) → said_by_words texts ≡ Ok said → IsSaid said
 words_say [] said is = absurd (no_ok UnknownWord said is)
 words_say (word ∷ ws) said is = go (by_word word (line_forms ws)) refl is where
   in_form : (f : Form) (args : List Text) → IsForm f → (o : Result (List Value) What) → arguments_in f.arguments args ≡ o → said_by f.says o ≡ Ok said → IsSaid said
@@ -487,7 +493,7 @@ reads_more n r line (Happens event) good none k = record {
   first = let f : 1 ≤ n = k.first in omega arith;
   rising = push 1 n event r.events k.first k.rising k.before;
   before = each_append (λ (e : ℕ × Event). e.0 < n + 1) r.events ((n, event) ∷ []) (later n r.events k.before) (omega arith, tt);
-  typed = each_append (λ (e : ℕ × Event). is_typed e.1 ≡ true) r.events ((n, event) ∷ []) k.typed (good, tt);
+  typed = each_append (λ (e : ℕ × Event). is_typed e.1 ≡ true) r.events ((n, event) ∷ []) k.typed (good.0, tt);
   known = each_append (λ (e : ℕ × Event). is_of_clients r.clients e.1 ≡ true) r.events ((n, event) ∷ []) k.known (names_given r event none, tt);
   clients = k.clients;
 }

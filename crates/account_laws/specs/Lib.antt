@@ -11,6 +11,7 @@ pub mod Histories
 pub mod Window
 pub mod Machines
 pub mod Span
+pub mod Retained
 pub mod Locks
 pub mod RepliesFit
 pub mod Spelled

@@ -4,12 +4,19 @@ ghost use Rattle.account_laws.specs.Junk.{LawOfJunk};
 ghost use Rattle.account_laws.specs.Locks.{LawOfLocks};
 ghost use Rattle.account_laws.specs.NodeLines.{NodesFollow};
 ghost use Rattle.account_laws.specs.RepliesFit.{RepliesFit};
+ghost use Rattle.account_laws.specs.Retained.{LawOfRetained};
 ghost use Rattle.account_laws.specs.Span.{LawOfSpan};
 
 /// Where no changing request comes as long as the span after it was recorded, a node that keeps the latest replies
 /// answers as one that keeps all, and executes no request twice. Moments must not fall.
 pub fn law_of_span()
     ensures { LawOfSpan }
+{}
+
+/// Whatever a node was given since its opening, it keeps as many replies as it executed requests, or as many as it may
+/// where these are fewer.
+pub fn law_of_retained()
+    ensures { LawOfRetained }
 {}
 
 /// In every run of the flat machine, between two Locks that both took one word stands an entry that was not refused and
