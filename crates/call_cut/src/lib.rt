@@ -8,7 +8,7 @@
 //!
 //! A call is good where it has none of the faults that `call_faults` lists. That a `Gather` is
 //! given no other call than its own is its caller's to keep: that is the condition `gathered`, and
-//! each call that changes one ensures it again.
+//! `take` and `give_up` ensure it again.
 #![tactic(auto)]
 
 mod buffer;

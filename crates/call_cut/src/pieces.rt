@@ -15,8 +15,8 @@ use cl_types::request::RequestRef;
 /// The greatest number of parts of a call.
 pub const MOST_PARTS: usize = 65;
 
-// A page is a whole number of parts, so at most two pieces of a call are shorter than a part: the one at the
-// end of its first page, and the last.
+// A page is a whole number of parts, so at most two pieces of a call are shorter than a part: the
+// one at the end of its first page, and the last.
 const _: () = prove!(MOST_PARTS == (CALL_BYTES / PART_BYTES) as usize + 1);
 
 /// A piece of the bytes of a call: `len` bytes at the offset `from`.

@@ -70,10 +70,10 @@ fn read_over_the_end_of_a_page(alloc: Global) -> Result<Call, NoMemory>
     })
 }
 
-/// The bytes in the buffer of a Read.
+/// The bytes in the buffer of a Read or an Offload.
 fn bytes_read(call: &Call) -> &[u8] {
     match call {
-        Call::Read { buf, .. } => buf.as_slice(),
+        Call::Read { buf, .. } | Call::Offload { buf, .. } => buf.as_slice(),
         _ => &[],
     }
 }
@@ -99,6 +99,42 @@ fn a_refusal_leaves_zeros_in_the_buffer(rt: HostRuntime) -> Result<(), Fail> {
     let refused = Answer::Refused(Refusal::NoMapping);
     assert_eq!(rt; gather.answer(&mut call), Some(refused));
     assert_eq!(rt; bytes_read(&call), [0, 0, 0, 0].as_slice());
+    Ok(())
+}
+
+#[test]
+fn the_least_part_that_was_refused_is_told(rt: HostRuntime) -> Result<(), Fail> {
+    let mut call = read_over_the_end_of_a_page(rt.alloc())?;
+    let mut gather = Gather::create(2);
+    gather.take(&mut call, 1, &ReplyRef::Refused(Refusal::NoPermission));
+    gather.take(&mut call, 0, &ReplyRef::Refused(Refusal::NoMapping));
+    let refused = Answer::Refused(Refusal::NoMapping);
+    assert_eq!(rt; gather.answer(&mut call), Some(refused));
+    Ok(())
+}
+
+/// An operation of an offload, with a buffer of four bytes.
+fn offload(alloc: Global) -> Result<Call, NoMemory>
+    ensures { IfOk result (λ made. made ≡ call.Offload 0 2 [] (7 ∷ 7 ∷ 7 ∷ 7 ∷ [])) }
+{
+    let mut buf = Bytes::create(alloc);
+    buf.append(&[7, 7, 7, 7])?;
+    Ok(Call::Offload {
+        no: 0,
+        op: 2,
+        bytes: Bytes::create(alloc),
+        buf,
+    })
+}
+
+#[test]
+fn an_offload_tells_how_many_bytes_came(rt: HostRuntime) -> Result<(), Fail> {
+    let mut call = offload(rt.alloc())?;
+    let mut gather = Gather::create(1);
+    gather.take(&mut call, 0, &ReplyRef::Got(b"ab"));
+    let done = Answer::Done(Value::Len(2));
+    assert_eq!(rt; gather.answer(&mut call), Some(done));
+    assert_eq!(rt; bytes_read(&call), [0x61, 0x62, 0, 0].as_slice());
     Ok(())
 }
 

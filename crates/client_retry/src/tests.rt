@@ -73,3 +73,14 @@ fn a_part_that_is_given_up_leaves_the_others(rt: HostRuntime) -> Result<(), Fail
     assert_eq!(rt; flight.part_of(1), Some(part(2, 0)));
     Ok(())
 }
+
+#[test]
+fn parts_whose_origs_share_a_chain_are_told_apart(rt: HostRuntime) -> Result<(), Fail> {
+    let mut flight = Flight::create(rt.alloc())?;
+    flight.sent(part(1, 0), 2, 0);
+    flight.sent(part(1, 1), 66, 0);
+    assert_eq!(rt; flight.hear(130), None);
+    assert_eq!(rt; flight.hear(66), Some(part(1, 1)));
+    assert_eq!(rt; flight.hear(2), Some(part(1, 0)));
+    Ok(())
+}
