@@ -7,7 +7,8 @@ use cl_types::reply::Part;
 /// What a poll did.
 #[derive(Clone, Copy, Debug, PartialEq, Eq)]
 pub enum Poll {
-    /// The first `len` bytes of the buffer are to be sent to the node: the frame of the part, under this id, and under
+    /// The first `len` bytes of the buffer are to be sent to the node: the frame of the part,
+    /// under this id, and under
     /// the id of the part's first sending. `again` tells that it was sent before.
     Sent {
         len: usize,
@@ -33,8 +34,8 @@ pub enum Heard {
     Ended(Part),
     /// No part in flight was first sent under this id.
     Late { orig: u64 },
-    /// The part in flight that was first sent under this id has another kind, the client another process, or the value
-    /// is not as long as the part asks.
+    /// The part in flight that was first sent under this id has another kind, the frame another
+    /// process, or the value is not as long as the part asks.
     Unfit { orig: u64 },
     /// The reply is another client's.
     Other { client: ClientNo },

@@ -1,4 +1,5 @@
-//! `Calls`: the calls that a client holds, those that have not ended and those that were not handed out.
+//! `Calls`: the calls that a client holds, those that have not ended and those that were not handed
+//! out.
 
 ghost use Rattle.std.specs.Prelude.{◌≡◌, ℕ, ◌+◌, ◌<◌, ◌≤◌, ◌==◌, [], ◌∷◌, ◌++◌, true, false, nat_lt, length, map, drop, find, option_map, IfOk, None, Some, is_some, slice_get};
 ghost use Rattle.std.specs.List.{AllByRecursion as Each, list_any};
@@ -48,7 +49,8 @@ impl Model for Calls {
 
     ghost view = { λ c. record { held = c.rows.items; ended = map finished_of c.ended.items } };
 
-    ghost invariant = { λ c. AreKept c.rows.items c.order (vec_capacity c.rows) (deque_capacity c.ended) };
+    ghost invariant = { λ c. AreKept c.rows.items c.order
+        (vec_capacity c.rows) (deque_capacity c.ended) };
 }
 
 impl Calls {
@@ -159,7 +161,8 @@ impl Calls {
         requires fence { is_some (fence_first_in self.old.held) ≡ true }
         ensures held { self.new.held ≡ drop 1 self.old.held }
         ensures ended { self.new.ended
-            ≡ self.old.ended ++ record { number = result.0; answer = combine Fence []; call = Fence } ∷ [] }
+            ≡ self.old.ended
+            ++ record { number = result.0; answer = combine Fence []; call = Fence } ∷ [] }
         ensures number { fence_first_in self.old.held ≡ Some result }
     {
         let no = self.rows.remove(0).no();
@@ -172,11 +175,13 @@ impl Calls {
         no
     }
 
-    /// Ends a call, not a Fence, where something came of each of its parts, and tells whether it did.
+    /// Ends a call, not a Fence, where something came of each of its parts, and tells whether it
+    /// did.
     fn end_where_over(&mut self, at: usize) -> bool
         requires few { length self.old.held + length self.old.ended ≤ 256 }
         requires apart { (last : ℕ) × AreRising 0 last (map (λ h. h.number) self.old.held) }
-        requires there { option_map (λ h. is_fence h.call) (slice_get self.old.held at) ≡ Some false }
+        requires there { option_map (λ h. is_fence h.call) (slice_get self.old.held at)
+            ≡ Some false }
         requires others { (i : ℕ) (h : Held) → slice_get self.old.held i ≡ Some h
             → (i == at) ≡ false → ended_of h ≡ None }
         ensures calls { self.new ≡ with_ends self.old }

@@ -1,8 +1,8 @@
 //! `Client`: its fields, and the calls that take a call, hand one out, and look.
 
-ghost use Rattle.std.specs.Prelude.{◌≡◌, ◌<◌, ◌≤◌, IfOk, None, option_map, slice_get};
+ghost use Rattle.std.specs.Prelude.{◌≡◌, ◌<◌, ◌≤◌, IfOk, None, leb, option_map, slice_get};
 ghost use Rattle.cl_types.specs.declared.numbers.TheConstants.{LAST_PID};
-ghost use Rattle.flat_model.specs.Client.{ClientState, after_done, new_client, ready_at as ready_at_of};
+ghost use Rattle.flat_model.specs.Client.{ClientState, after_done, held, new_client, ready_at as ready_at_of};
 ghost use Rattle.flat_model.specs.Issue.{issue_fault};
 ghost use Rattle.client_core.specs.Answers.{done_answer, issue_answer, issue_state};
 ghost use Rattle.client_core.specs.Valid.{IsValid};
@@ -69,7 +69,8 @@ impl Client {
         })
     }
 
-    /// Takes a call, under the next number. The first fault that holds hands it back, and the client is as it was.
+    /// Takes a call, under the next number. The first fault that holds hands it back, and the
+    /// client is as it was.
     pub fn issue(&mut self, call: Call) -> Result<CallNo, (IssueFault, Call)>
         requires { self.old.issued < 4294967295 }
         ensures answer { result ≡ issue_answer self.old call (issue_fault self.old call) }
@@ -89,14 +90,14 @@ impl Client {
     fn fault_of(&self, call: &Call) -> Option<IssueFault>
         ensures { result ≡ issue_fault self.now call.now }
     {
-        if self.calls.count() >= HELD_CALLS as usize {
+        if self.is_full() {
             return Some(IssueFault::QueueFull);
         }
         call_fault(call)
     }
 
-    /// Hands out the call that ended first, with its answer. `None` comes exactly where none has ended and was not
-    /// handed out.
+    /// Hands out the call that ended first, with its answer. `None` comes exactly where no ended call
+    /// waits.
     pub fn done(&mut self) -> Option<(CallNo, Answer, Call)>
         ensures answer { result ≡ option_map done_answer (slice_get self.old.ended 0) }
         ensures state { self.new ≡ after_done self.old }
@@ -113,6 +114,20 @@ impl Client {
         ensures { result ≡ ready_at_of self.now no.0 }
     {
         self.calls.is_ready(no)
+    }
+
+    /// Whether it holds as many calls as it may.
+    pub fn is_full(&self) -> bool
+        ensures { result ≡ leb HELD_CALLS (held self.now) }
+    {
+        self.calls.count() >= HELD_CALLS as usize
+    }
+
+    /// Its number.
+    pub fn no(&self) -> ClientNo
+        ensures { result ≡ self.now.client }
+    {
+        self.no
     }
 
     /// How many calls it has issued.

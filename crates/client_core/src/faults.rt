@@ -44,7 +44,8 @@ fn told(n: u64) -> u32
     n.min(u32::MAX as u64) as u32
 }
 
-/// The first fault of `n` bytes or pages at an address, at most `most` of them, which are `len` bytes.
+/// The first fault of `n` bytes or pages at an address, at most `most` of them, which are `len`
+/// bytes.
 fn bytes_fault(addr: Addr, n: u64, most: u32, len: u64) -> Option<IssueFault>
     requires { len ≤ 2 ^ 63 }
     ensures { result ≡ first_fault (bytes_faults addr n most len) }
@@ -74,7 +75,8 @@ fn buffer_fault(addr: Addr, bytes: &[u8]) -> Option<IssueFault>
 
 /// The first fault of the number of an Alloc's pages.
 fn pages_fault(pages: u32) -> Option<IssueFault>
-    ensures { result ≡ first_fault ((pages == 0, Empty) ∷ (nat_lt 1024 pages, TooLong (as_far_as_told pages)) ∷ []) }
+    ensures { result ≡ first_fault
+        ((pages == 0, Empty) ∷ (nat_lt 1024 pages, TooLong (as_far_as_told pages)) ∷ []) }
 {
     if pages == 0 {
         return Some(IssueFault::Empty);

@@ -141,7 +141,8 @@ impl Row {
     /// The call as it ends by what came of its parts.
     pub fn end(self) -> Ended
         requires { is_some (every self.came) ≡ true }
-        ensures { IfSome (every self.came) (λ endings. finished_of result ≡ ended_with self endings) }
+        ensures { IfSome (every self.came)
+            (λ endings. finished_of result ≡ ended_with self endings) }
     {
         let Row {
             no,

@@ -17,8 +17,8 @@ use cl_types::request::RequestRef;
 use frame_codec::{ReplyView, read_reply};
 
 impl Client {
-    /// Hears bytes: the first that holds of Bad, Other, Late and Unfit, and else the reply is taken, its bytes put
-    /// into the buffer of its call.
+    /// Hears bytes: the first that holds of Bad, Other, Late and Unfit, and else the reply is
+    /// taken, its bytes put into the buffer of its call.
     pub fn hear(&mut self, frame: &[u8]) -> Heard
         ensures answer { result ≡ heard_answer self.old (heard_as self.old frame.now) }
         ensures state { self.new ≡ after_hearing (heard_as self.old frame.now) self.old }
@@ -54,8 +54,10 @@ impl Client {
 
 /// Whether the reply has the kind and the process of the request, and is as long as it asks.
 fn is_fit(request: &RequestRef, pid: Pid, view: &ReplyView) -> bool
-    ensures { result ≡ (kind_number view.now.kind == kind_number (kind_of_request (request_of request.now))
-        && view.now.head.pid == pid && is_as_long_reply (request_of request.now) (reply_of view.now.body)) }
+    ensures { result
+        ≡ (kind_number view.now.kind == kind_number (kind_of_request (request_of request.now))
+        && view.now.head.pid == pid
+        && is_as_long_reply (request_of request.now) (reply_of view.now.body)) }
 {
     kind_of(request) == view.kind
         && view.head.pid.number() == pid.number()

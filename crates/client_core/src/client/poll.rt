@@ -17,8 +17,8 @@ use cl_types::reply::Part;
 use client_retry::Due;
 
 impl Client {
-    /// Does the first thing that is due at the moment `now`, and tells which. A frame is written to the start of `out`;
-    /// the rest of `out` stays, and all of it where nothing is sent.
+    /// Does the first thing that is due at the moment `now`, and tells which. A frame is written to
+    /// the start of `out`; the rest of `out` stays, and all of it where nothing is sent.
     pub fn poll(&mut self, now: u64, out: &mut [u8]) -> Poll
         requires moment { self.old.last ≤ now }
         requires room { 1200 ≤ length out.old }
