@@ -4,3 +4,9 @@ pub mod Parts
 pub mod Parted
 pub mod Pieces
 pub mod Memories
+pub mod Leaving
+pub mod ObjectLists
+pub mod Beside
+pub mod Requests
+pub mod Begun
+pub mod Opened

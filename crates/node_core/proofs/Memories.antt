@@ -1,12 +1,10 @@
 -- The memory of a whole store, and what comes of a request of a process to it.
-use Rattle.std.proofs.Common.{T, ◌≡◌, ◌≢◌, ℕ, zero, suc, ◌+◌, ◌<◌, ◌≤◌, ◌*◌, ◌==◌, ◌&&◌, leb, Bool, true, false, not, cond, inl, inr, List, [], ◌∷◌, Option, Some, None, option_map, is_some, refl, sym, ap, ◌∙◌, subst, arith, length, slice_get, min, ◌-◌, replicate}
-use Rattle.std.specs.Prelude.{IsTrue, if◌then◌else◌}
-use Rattle.std.specs.FinMap.Entries.{find, where_key, is_sorted, below_all}
+use Rattle.std.proofs.Common.{◌≡◌, ℕ, ◌<◌, ◌≤◌, ◌*◌, ◌==◌, Bool, true, false, List, [], ◌∷◌, Option, Some, None, option_map, is_some, refl, sym, ap, ◌∙◌, subst, arith, IfSome, slice_get, ◌+◌, ◌-◌}
+use Rattle.std.specs.Prelude.{if◌then◌else◌}
+use Rattle.std.specs.FinMap.Entries.{is_sorted, below_all}
 use Rattle.std.specs.Ordering.{is_lt}
-use Rattle.std.proofs.lemmas.Bool.{cases_Bool}
-use Rattle.std.proofs.lemmas.List.{length-replicate}
-use Rattle.std.proofs.lemmas.List.FromFn.{length-range_with_len}
 use Rattle.std.proofs.lemmas.Bool.Decides.{nat_tests}
+use Rattle.cl_types.specs.declared.config.OffloadConfig.{OffloadConfig}
 use Rattle.cl_types.specs.declared.page.Pte.{Pte}
 use Rattle.cl_types.specs.declared.numbers.Addr.{Addr}
 use Rattle.cl_types.specs.declared.numbers.PageNo.{PageNo}
@@ -18,7 +16,8 @@ use Rattle.cl_types.specs.declared.request.Request.{Request}
 use Rattle.cl_types.specs.declared.request.Request.TheVariants as request
 use Rattle.cl_types.specs.Places.{Place, place_cmp, is_process}
 use Rattle.data_path.specs.declared.store.PageStore.{PageStore}
-use Rattle.data_path.specs.Store.{IsWhole, backed, flat_of, held_places, memory_of, page_in, pages_in, spans_in}
+use Rattle.data_path.specs.Spaces.{contents_of}
+use Rattle.data_path.specs.Store.{IsWhole, backed, flat_of, memory_of, page_in, spans_in}
 use Rattle.data_path.proofs.Accesses.{page_there}
 use Rattle.data_path.proofs.Framing.{used_is}
 use Rattle.data_path.proofs.Pages.{find-pages_in, sorted_pages}
@@ -30,19 +29,13 @@ use Rattle.flat_model.specs.Objects.{Object}
 use Rattle.flat_model.specs.State.{FlatState, Page, least, page_at, places, used}
 use Rattle.flat_model.specs.Step.{alloc, alloc_at, on_object, outcome, refused}
 use Rattle.flat_model.specs.Ranges.{is_page_count}
-use Rattle.flat_model.specs.Rows.{keys}
-use Rattle.hash_buckets.specs.PageMap.{PageMap, IsValid, entry_of}
-use Rattle.page_arena.specs.Arena.{zero_page}
-use Rattle.page_pool.specs.PoolPages.{PoolPages, IsPartition, free_pages}
-use Rattle.page_pool.proofs.Zeros.{AreZero-new}
-use Rattle.range_alloc.specs.Ranges.{AreRanges, AreTaken, frame_at}
-use Rattle.range_alloc.proofs.Frames.{taken_empty}
-use Rattle.range_alloc.proofs.Ranges.{ranges_empty}
-use Rattle.std.specs.List.{range_with_len}
-use Rattle.std.specs.Map.{lookup}
-use Rattle.translate_cache.specs.Cached.{is_place}
+use Rattle.hash_buckets.specs.PageMap.{entry_of}
+use Rattle.page_pool.specs.PoolPages.{free_pages}
 use Rattle.node_core.specs.Parted.{IsMemory, flat_outcome}
 use Rattle.node_core.specs.Placed.{is_offload}
+use Rattle.node_core.specs.Keeping.{IsHeldIn, LieIn}
+use Rattle.node_core.specs.Stores.{objects_in, state_in}
+use Rattle.node_core.proofs.ObjectLists.{held_from}
 use Rattle.node_core.proofs.Parted.{alloc-flat, atomic-flat, free-flat, page_at-flat, read-flat, used-flat, write-flat}
 
 -- ---- a whole store's memory
@@ -123,30 +116,35 @@ outcome_pages m pid (request.Write addr bytes) = grind arith
 outcome_pages m pid (request.Atomic addr op) = grind arith
 outcome_pages m pid (request.Offload number op out bytes) = grind arith
 
--- where there are no objects, a request of one is refused
-pub no_object : (s : FlatState) (pid : ℕ) (r : Request) → s.objects ≡ [] → is_offload r ≡ true → outcome s pid r ≡ refused s NoOffload
-no_object s pid (request.Offload number op out bytes) none is =
-    ap (λ (os : List Object). on_object s number op out bytes (slice_get os number)) none
-no_object s pid (request.Alloc n perm) none is = absurd cc
-no_object s pid (request.Free addr n) none is = absurd cc
-no_object s pid (request.Read addr n) none is = absurd cc
-no_object s pid (request.Write addr bytes) none is = absurd cc
-no_object s pid (request.Atomic addr op) none is = absurd cc
+-- where no object has the number, a request of one is refused
+pub no_object : (s : FlatState) (pid number op out : ℕ) (bytes : List ℕ) → slice_get s.objects number ≡ None
+    → outcome s pid (request.Offload number op out bytes) ≡ refused s NoOffload
+no_object s pid number op out bytes none = ap (on_object s number op out bytes) none
 
--- ---- a store without offloads, and the flat state that contracts see
+-- ---- a store, and the flat state that contracts see
 -- a page of the state by its entry
-pub page_seen : (s : PageStore) (seen : FlatState) (pid number page vpn : ℕ) (o : Option Pte) → flat_of [] (memory_of s) ≡ seen → is_process pid ≡ true
-    → number ≡ pid → vpn ≡ page → o ≡ entry_of s.table (number, vpn) → page_at seen pid page ≡ option_map (page_in s.arena) o
-page_seen s seen pid number page vpn o is process same_space same_page there =
-    ap (λ (t : FlatState). page_at t pid page) (sym is) ∙ page_at-flat [] (memory_of s) pid page process
+pub page_seen : (s : PageStore) (offloads : List OffloadConfig) (seen : FlatState) (pid number page vpn : ℕ) (o : Option Pte) → state_in offloads s ≡ seen
+    → is_process pid ≡ true → number ≡ pid → vpn ≡ page → o ≡ entry_of s.table (number, vpn) → page_at seen pid page ≡ option_map (page_in s.arena) o
+page_seen s offloads seen pid number page vpn o is process same_space same_page there =
+    ap (λ (t : FlatState). page_at t pid page) (sym is) ∙ page_at-flat (objects_in offloads s) (memory_of s) pid page process
     ∙ page_there s pid page o ((λ i. entry_of s.table (sym same_space i, sym same_page i)) ∙ sym there)
 
 -- how many physical pages are taken
-pub used_seen : (s : PageStore) (seen : FlatState) (pages free : ℕ) → flat_of [] (memory_of s) ≡ seen → IsWhole s → s.pool.pages ≡ pages
+pub used_seen : (s : PageStore) (offloads : List OffloadConfig) (seen : FlatState) (pages free : ℕ) → state_in offloads s ≡ seen → IsWhole s → s.pool.pages ≡ pages
     → free ≡ free_pages s.pool → pages - free ≡ used seen
-used_seen s seen pages free is whole count left =
-    let taken : used seen ≡ backed s.table.entries = ap used (sym is) ∙ used-flat [] (memory_of s) (memory_in_order s whole) ∙ used_is s in
+used_seen s offloads seen pages free is whole count left =
+    let taken : used seen ≡ backed s.table.entries = ap used (sym is) ∙ used-flat (objects_in offloads s) (memory_of s) (memory_in_order s whole) ∙ used_is s in
     omega (arith, taken, whole.fit.named, count, left)
+
+-- the state's map, ranges and offloads' pages are those of the store
+pub store_seen : (s : PageStore) (offloads : List OffloadConfig) (seen : FlatState) → state_in offloads s ≡ seen → flat_of seen.objects (memory_of s) ≡ seen
+store_seen s offloads seen is = ap (λ (t : FlatState). flat_of t.objects (memory_of s)) (sym is) ∙ is
+
+-- and its objects lie in the store's spaces
+pub objects_seen : (s : PageStore) (offloads : List OffloadConfig) (seen : FlatState) → state_in offloads s ≡ seen → LieIn s seen.objects
+objects_seen s offloads seen is =
+    subst (λ (t : FlatState). LieIn s t.objects) is (λ n. let first : 0 + n ≡ n = omega arith in
+    subst (λ m. IfSome (slice_get (objects_in offloads s) n) (IsHeldIn (contents_of m s))) first (held_from (λ k. contents_of k s) 0 offloads n))
 
 pub process_of : (pid number : ℕ) → number ≡ pid → (0 < number) × (number ≤ 65279) → is_process pid ≡ true
 process_of pid number same range = grind (arith, nat_tests)

@@ -1,8 +1,7 @@
 -- A request of a process comes to the same of a memory and of the node's flat state over it.
-use Rattle.std.proofs.Common.{T, ◌≡◌, ◌≢◌, ℕ, zero, suc, ◌+◌, ◌==◌, ◌&&◌, leb, Bool, true, false, not, cond, inl, inr, List, [], ◌∷◌, ◌++◌, length, map, Option, Some, None, is_some, is_none, refl, sym, ap, ◌∙◌, subst, arith, append-nil}
-use Rattle.std.specs.List.{list_any, list_all, count_by, range_with_len, AllByRecursion}
-use Rattle.std.specs.FinMap.Entries.{find, put, where_key, is_sorted, below_all}
-use Rattle.std.specs.Int.{to_le_bytes, w64}
+use Rattle.std.proofs.Common.{◌≡◌, ℕ, zero, suc, ◌+◌, ◌==◌, ◌&&◌, leb, Bool, true, false, not, inl, inr, List, [], ◌∷◌, ◌++◌, length, Option, Some, None, is_some, is_none, refl, sym, ap, ◌∙◌, arith, append-nil}
+use Rattle.std.specs.List.{list_any, list_all, range_with_len, AllByRecursion}
+use Rattle.std.specs.FinMap.Entries.{find, put, is_sorted, below_all}
 use Rattle.std.specs.Ordering.{eq_by_cmp, is_eq, is_lt}
 use Rattle.std.specs.declared.cmp.Ordering.{Ordering}
 use Rattle.std.specs.declared.cmp.Ordering.TheVariants.{Less, Equal, Greater}
@@ -12,19 +11,16 @@ use Rattle.cl_types.specs.declared.call.AtomicOp.{AtomicOp}
 use Rattle.cl_types.specs.declared.call.Perm.{Perm}
 use Rattle.cl_types.specs.declared.numbers.Addr.{Addr}
 use Rattle.cl_types.specs.declared.reply.Reply.{Reply}
-use Rattle.cl_types.specs.declared.request.Request.{Request}
-use Rattle.cl_types.specs.declared.request.Request.TheVariants as request
 use Rattle.cl_types.specs.declared.limits.TheConstants.{BUCKET_PAGES, SPACE_PAGES}
 use Rattle.cl_types.specs.Places.{Place, place_cmp, home_of, homes_at, is_process}
 use Rattle.cl_types.proofs.PlaceLemmas.{same_place-self, split_place}
 use Rattle.flat_model.proofs.BucketLemmas.{first_of_both, second_of_both}
 use Rattle.flat_model.specs.Objects.{Object}
-use Rattle.flat_model.specs.Pages.{page_of, offset_of, word_at, word_after}
+use Rattle.flat_model.specs.Pages.{page_of}
 use Rattle.flat_model.specs.Rows.{keys}
-use Rattle.flat_model.specs.State.{FlatState, Page, bytes_of, fits, is_mapped, least, least_from, page_at, places, places_of, used}
-use Rattle.flat_model.specs.Step.{Outcome, alloc, alloc_at, atomic, free, free_if, has_pages, if_allowed, if_pages_last, is_among, is_out_of_pages, is_range, mapped, may_change, may_read, may_write, on_bytes, on_found, on_page, outcome, puts, read, refused, unmapped, with_fresh, write, written}
+use Rattle.flat_model.specs.State.{FlatState, Page, fits, is_mapped, least, least_from, page_at, places, places_of, used}
+use Rattle.flat_model.specs.Step.{Outcome, alloc, alloc_at, atomic, free, free_if, has_pages, if_allowed, if_pages_last, is_among, is_out_of_pages, is_range, mapped, may_change, may_read, may_write, on_bytes, on_found, on_page, puts, read, unmapped, with_fresh, write, written}
 use Rattle.flat_model.proofs.LeastLemmas.{least_is}
-use Rattle.flat_model.proofs.PutLemmas.{T_of, of_T}
 use Rattle.data_path.specs.Store.{flat_of}
 use Rattle.node_core.specs.Parted.{IsMemory, flat_outcome}
 use Rattle.node_core.proofs.Parts.{InOrder, any-parts, count-backed, count-parts, find-where, sorted-put, where-put, where-put_other, where-twice, where-within, where_place}
@@ -139,7 +135,7 @@ where-fresh_other test perm (p ∷ ps) es sorted all =
     ∙ where-fresh_other test perm ps es sorted all.1
 
 -- each page of a range is of the process
-all-of : (test : ℕ → Bool) (answer : Bool) (pid n start : ℕ) → test pid ≡ answer → AllByRecursion (λ (p : Place). test p.0 ≡ answer) (places_of pid start n)
+pub all-of : (test : ℕ → Bool) (answer : Bool) (pid n start : ℕ) → test pid ≡ answer → AllByRecursion (λ (p : Place). test p.0 ≡ answer) (places_of pid start n)
 all-of test answer pid zero start is = tt
 all-of test answer pid (suc n) start is = (is, all-of test answer pid n (start + 1) is)
 
@@ -159,7 +155,7 @@ mapped-flat objects m pid start n perm is process =
     }
 
 -- a page of no process isn't among those of a process
-not_among : (pid start n : ℕ) (place : Place) → is_process pid ≡ true → of_offload place ≡ true → not (is_among pid start n place) ≡ true
+pub not_among : (pid start n : ℕ) (place : Place) → is_process pid ≡ true → of_offload place ≡ true → not (is_among pid start n place) ≡ true
 not_among pid start n place process outside = elim (cases_Bool (place.0 == pid)) [
   | inl one ↦ absurd (let same : place.0 ≡ pid = grind (arith, nat_tests) in let inside : is_process place.0 ≡ true = ap is_process same ∙ process in let wrong = rw inside at outside in cc)
   | inr two ↦ rw two refl

@@ -1,12 +1,12 @@
 -- A list in three parts, of which the middle one is written, and the pieces of a page.
-use Rattle.std.proofs.Common.{◌≡◌, ℕ, ◌+◌, ◌<◌, ◌≤◌, zero, suc, List, [], ◌∷◌, ◌++◌, length, take, drop, true, refl, sym, ap, ◌∙◌, subst, arith}
-use Rattle.std.specs.Prelude.{IsTrue}
+use Rattle.std.proofs.Common.{◌≡◌, ℕ, ◌≤◌, leb, min, inl, inr, List, ◌++◌, length, take, drop, true, sym, ap, ◌∙◌, arith}
+use Rattle.std.proofs.lemmas.Bool.{cases_Bool}
+use Rattle.std.proofs.lemmas.List.{length-take, take-take, take_all}
 use Rattle.std.proofs.lemmas.Bool.Decides.{nat_tests}
 use Rattle.std.proofs.lemmas.Grind.{common_steps}
 use Rattle.cl_types.specs.Bytes.{bytes_at}
 use Rattle.cl_types.specs.declared.numbers.Addr.{Addr}
 use Rattle.data_path.specs.Access.{IsPiece}
-use Rattle.flat_model.specs.Pages.{offset_of}
 use Rattle.flat_model.specs.Ranges.{is_piece}
 
 take_front : (a b : List ℕ) → take (length a) (a ++ b) ≡ a
@@ -27,3 +27,14 @@ piece_of addr n is = record { good = grind (arith, nat_tests); some = grind (ari
 -- and has at most 1,024 bytes
 pub few_bytes : (addr : Addr) (n : ℕ) → is_piece addr n ≡ true → n ≤ 1024
 few_bytes addr n is = grind (arith, nat_tests)
+
+-- bytes are cut twice
+pub cut_twice : (len most : ℕ) (xs : List ℕ) → len ≤ 1024 → take (min len most) xs ≡ take most (take len (take 1024 xs))
+cut_twice len most xs few = elim (cases_Bool (leb most len)) [
+  | inl t ↦ let less : most ≤ len = grind (arith, nat_tests) in
+      ap (λ n. take n xs) (let same : min len most ≡ most = omega (arith, less) in same) ∙ sym (take-take most len xs less) ∙ ap (take most) (sym (take-take len 1024 xs few))
+  | inr f ↦
+      let more : len ≤ most = grind (arith, nat_tests) in
+      let short : length (take len xs) ≤ most = omega (arith, more, length-take len xs) in
+      ap (λ n. take n xs) (let same : min len most ≡ len = omega (arith, more) in same) ∙ sym (take_all most (take len xs) short) ∙ ap (take most) (sym (take-take len 1024 xs few))
+]

@@ -1,15 +1,15 @@
 -- The records of a node and those of its retry buffer.
-use Rattle.std.proofs.Common.{◌≡◌, ℕ, zero, suc, ◌-◌, ◌≤◌, true, false, Bool, ◌⊎◌, inl, inr, List, [], ◌∷◌, ◌++◌, length, drop, map, Option, Some, None, option_map, refl, sym, ap, ◌∙◌, subst, slice_get, arith}
-use Rattle.std.specs.Prelude.{leb, find, IsNone, if◌then◌else◌}
+use Rattle.std.proofs.Common.{◌≡◌, ℕ, zero, suc, ◌-◌, ◌≤◌, true, false, Bool, inl, inr, List, [], ◌∷◌, ◌++◌, length, drop, map, Option, Some, None, option_map, refl, sym, ap, ◌∙◌, subst, slice_get, arith}
+use Rattle.std.specs.Prelude.{leb, find, if◌then◌else◌}
 use Rattle.std.specs.List.{AllByRecursion}
 use Rattle.std.proofs.lemmas.Bool.{cases_Bool}
 use Rattle.std.proofs.lemmas.List.{length-map, drop-map, map-append}
 use Rattle.std.proofs.lemmas.Option.{slice_get-map}
 use Rattle.cl_types.specs.declared.reply.Reply.{Reply}
 use Rattle.cl_types.specs.Times.{is_young}
-use Rattle.flat_model.specs.Handling.{Handling, Executes, if_young, Looks, Repeats, RefusesForNow, handling, item_outcome, on_oldest, latest, oldest_of}
+use Rattle.flat_model.specs.Handling.{Executes, if_young, Looks, Repeats, handling, item_outcome, on_oldest, latest, oldest_of}
 use Rattle.flat_model.specs.Frames.{Item, kind_of}
-use Rattle.flat_model.specs.Nodes.{Name, Record, Node, name_of as name_in, record_named, same_name, handles}
+use Rattle.flat_model.specs.Nodes.{Name, Record, name_of as name_in, record_named, same_name, handles}
 use Rattle.flat_model.specs.State.{FlatState}
 use Rattle.cl_types.specs.Requests.{is_changing}
 use Rattle.cl_types.specs.declared.call.Kind.{Kind}
@@ -17,6 +17,7 @@ use Rattle.cl_types.specs.declared.small_reply.SmallReply.{SmallReply}
 use Rattle.retry_buffer.specs.declared.noted.Noted.{Noted}
 use Rattle.retry_buffer.specs.Kept.{Kept, AreNotedBy, HasRoom, name_of, noted_as, oldest_moment, with_noted, IsValid}
 use Rattle.retry_buffer.proofs.Names.{same_name_is}
+use Rattle.translate_cache.specs.Cached.{Cached}
 use Rattle.node_core.specs.Fields.{IsSound, IsSpelled, handling_at, kept_node, record_of, reply_kept}
 use Rattle.node_core.specs.Keeping.{KeptNode}
 
@@ -109,8 +110,8 @@ pub record Shows (kept : KeptNode) (noted : Kept) (last : ℕ) : Type 0 where
   pub moment : kept.last ≡ last
 
 -- what contracts see of the fields shows them
-pub shown : (flat : FlatState) (noted : Kept) (last : ℕ) (kept : KeptNode) → kept_node flat noted last ≡ kept → Shows kept noted last
-shown flat noted last kept is = record {
+pub shown : (flat : FlatState) (cache : Cached) (noted : Kept) (last : ℕ) (kept : KeptNode) → kept_node flat cache noted last ≡ kept → Shows kept noted last
+shown flat cache noted last kept is = record {
   records = sym (ap (λ (k : KeptNode). k.node.records) is);
   retry = sym (ap (λ (k : KeptNode). k.node.retry) is);
   moment = sym (ap (λ (k : KeptNode). k.last) is);
@@ -221,11 +222,11 @@ looks_up kept noted last item shows is =
     (oldest_moment noted) (sym (handling_shown kept noted last item shows) ∙ is)
 
 -- the record of an executed item joins the latest
-pub executed : (kept : KeptNode) (noted next : Kept) (last : ℕ) (item : Item) (flat : FlatState) (r : Noted) → Shows kept noted last
+pub executed : (kept : KeptNode) (noted next : Kept) (last : ℕ) (item : Item) (flat : FlatState) (cache : Cached) (r : Noted) → Shows kept noted last
     → flat ≡ (item_outcome kept.node.flat item).state → next ≡ with_noted r noted
     → record_of r ≡ record { moment = last; name = name_in item; reply = (item_outcome kept.node.flat item).reply }
-    → kept_node flat next last ≡ record kept { node = (handles latest kept.node kept.last item Executes).node }
-executed kept noted next last item flat r shows state noting recorded =
+    → kept_node flat cache next last ≡ record kept { node = (handles latest kept.node kept.last item Executes).node; cache = cache }
+executed kept noted next last item flat cache r shows state noting recorded =
     let records : map record_of next.records ≡ latest kept.node.retry (kept.node.records
     ++ record { moment = kept.last; name = name_in item; reply = (item_outcome kept.node.flat item).reply } ∷ []) =
     ap (λ (k : Kept). map record_of k.records) noting
@@ -234,7 +235,7 @@ executed kept noted next last item flat r shows state noting recorded =
     ∙ (λ i. latest kept.node.retry (kept.node.records
     ++ record { moment = sym shows.moment i; name = name_in item; reply = (item_outcome kept.node.flat item).reply } ∷ [])) in
     let retry : next.capacity ≡ kept.node.retry = ap (λ (k : Kept). k.capacity) noting ∙ sym shows.retry in
-    λ i. record { node = record { flat = state i; records = records i; retry = retry i }; last = sym shows.moment i }
+    λ i. record { node = record { flat = state i; records = records i; retry = retry i }; last = sym shows.moment i; cache = cache }
 
 -- and the records stay sound
 pub sound_noted : (noted next : Kept) (last : ℕ) (r : Noted) → IsSound noted last → next ≡ with_noted r noted → IsValid next

@@ -1,8 +1,8 @@
 -- What is kept of a reply.
-use Rattle.std.proofs.Common.{◌≡◌, ℕ, zero, suc, ◌+◌, ◌≤◌, ◌<◌, ◌%◌, ◌==◌, true, false, Bool, ◌⊎◌, inl, inr, List, [], ◌∷◌, ◌++◌, length, drop, take, Option, Some, None, Ok, Err, refl, sym, ap, ◌∙◌, subst, arith, slice_get, get_or, drop-cons, length-drop, ◌-◌}
-use Rattle.std.specs.Prelude.{IsTrue, slice_index, if◌then◌else◌}
+use Rattle.std.proofs.Common.{◌≡◌, ℕ, zero, suc, ◌+◌, ◌≤◌, ◌<◌, ◌%◌, ◌==◌, true, false, List, [], ◌∷◌, length, drop, take, Option, Some, None, Ok, Err, refl, sym, ap, ◌∙◌, subst, arith, slice_get, drop-cons, length-drop, ◌-◌}
+use Rattle.std.specs.Prelude.{IsTrue, slice_index}
 use Rattle.std.proofs.Math.Seq.{take-length}
-use Rattle.std.proofs.lemmas.List.{get_or-take, length-take}
+use Rattle.std.proofs.lemmas.List.{get_or-take}
 use Rattle.std.proofs.lemmas.Bool.Decides.{nat_tests}
 use Rattle.cl_types.specs.declared.call.Kind.{Kind}
 use Rattle.cl_types.specs.declared.call.Kind.TheVariants as kind

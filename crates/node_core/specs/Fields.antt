@@ -9,8 +9,9 @@ use Rattle.cl_types.specs.SmallReplies.{value_of}
 use Rattle.cl_types.specs.Kinds.{kind_number}
 use Rattle.flat_model.specs.Frames.{Item, reply_in_body, reply_value, status_in}
 use Rattle.flat_model.specs.Handling.{Handling, Repeats, RefusesForNow, Executes, Looks, handling, oldest_of}
-use Rattle.flat_model.specs.Nodes.{Node, Record, name_of as name_in, record_named}
+use Rattle.flat_model.specs.Nodes.{Record, name_of as name_in, record_named}
 use Rattle.flat_model.specs.State.{FlatState}
+use Rattle.translate_cache.specs.Cached.{Cached}
 use Rattle.retry_buffer.specs.declared.noted.Noted.{Noted}
 use Rattle.retry_buffer.specs.Kept.{Kept, AreNotedBy, IsValid, name_of}
 use Rattle.node_core.specs.declared.keeper.Judged.{Judged}
@@ -30,10 +31,11 @@ abbrev pub record_of : Noted → Record
 record_of r = record { moment = r.moment; name = name_of r; reply = reply_kept r.kind r.reply }
 
 -- what contracts see
-abbrev pub kept_node : FlatState → Kept → ℕ → KeptNode
-kept_node flat kept last = record {
+abbrev pub kept_node : FlatState → Cached → Kept → ℕ → KeptNode
+kept_node flat cache kept last = record {
   node = record { flat = flat; records = map record_of kept.records; retry = kept.capacity };
   last = last;
+  cache = cache;
 }
 
 -- the bytes that are kept are those of the reply that they stand for

@@ -1,27 +1,49 @@
 -- What a contract sees of a keeping node, and of what it answers.
-use Rattle.std.specs.Prelude.{ℕ, ◌≡◌, ◌≤◌, List, [], ◌∷◌, take, Option, Some, None, Result, Ok, Err}
+use Rattle.std.specs.Prelude.{ℕ, ◌≡◌, ◌≤◌, List, [], ◌∷◌, take, Option, Some, None, Result, Ok, Err, IfSome, IsTrue, slice_get}
 use Rattle.cl_types.specs.declared.call.Kind.{Kind}
 use Rattle.cl_types.specs.declared.frame.Head.{Head}
 use Rattle.cl_types.specs.declared.frame.How.{How}
+use Rattle.cl_types.specs.declared.frame.How.TheVariants.{Executed, Looked}
 use Rattle.cl_types.specs.declared.reply.Refusal.{Refusal}
 use Rattle.cl_types.specs.declared.reply.Reply.{Reply}
+use Rattle.cl_types.specs.declared.request.Request.{Request}
+use Rattle.cl_types.specs.declared.request.Request.TheVariants as request
 use Rattle.cl_types.specs.declared.request.RequestRef.{RequestRef}
 use Rattle.cl_types.specs.Requests.{request_of}
-use Rattle.flat_model.specs.Frames.{Item, items_in, reply_frame, kind_of, status_in}
-use Rattle.flat_model.specs.Handling.{latest}
-use Rattle.flat_model.specs.Nodes.{Node, Said, Gives, IsBusy, NodeAnswer, Refuses, Says, node_answer, node_given}
+use Rattle.flat_model.specs.Frames.{Item, is_reply_of, items_in, reply_frame, kind_of, status_in}
+use Rattle.data_path.specs.declared.store.PageStore.{PageStore}
+use Rattle.data_path.specs.Spaces.{contents_of}
+use Rattle.data_path.specs.Store.{IsLatest}
+use Rattle.flat_model.specs.Objects.{Object}
+use Rattle.flat_model.specs.Objects.Object.{KvObject}
+use Rattle.kv_offload.specs.Stored.{pairs_in}
+use Rattle.flat_model.specs.Pages.{page_of}
+use Rattle.flat_model.specs.State.{FlatState}
+use Rattle.translate_cache.specs.Cached.{Cached}
+use Rattle.flat_model.specs.Nodes.{Node, Said, Gives, IsBusy, NodeAnswer, Refuses, Says}
 use Rattle.node_core.specs.declared.outcome.Outcome.{Outcome}
 use Rattle.node_core.specs.declared.outcome.Outcome.TheVariants.{Replied, Busy, Bad}
 
--- the keeping node, and the latest moment that it was given
+-- the keeping node, the latest moment that it was given, and the entries of its page table that were used of late
 pub record KeptNode : Type 0 where
   pub node : Node
   pub last : ℕ
+  pub cache : Cached
+
+-- what a node's memory means, and the entries of its page table that were used of late
+pub record KeptMemory : Type 0 where
+  pub flat : FlatState
+  pub cache : Cached
+
+-- the reply to an execution is one that a frame of its kind can carry; a reader of the frame finds that very reply
+abbrev pub IsCarried : Kind → How → Reply → Type 0
+IsCarried kind Executed reply = IsTrue (is_reply_of kind reply)
+IsCarried kind other reply = Unit {0}
 
 -- the outcome tells of this reply, whose frame stands at the start of the buffer, and how the node came to it
 abbrev pub TellsReply : Head → Kind → How → Reply → Outcome → List ℕ → Type 0
 TellsReply head kind how reply (Replied len told status) out =
-    (told ≡ how) × (status ≡ status_in reply) × (len ≤ 1051) × (take len out ≡ reply_frame head kind reply)
+    (told ≡ how) × (status ≡ status_in reply) × (len ≤ 1051) × (take len out ≡ reply_frame head kind reply) × IsCarried kind how reply
 TellsReply head kind how reply other out = ⊥
 
 -- the outcome tells what is said to the item
@@ -42,6 +64,35 @@ Tells frame (Refuses fault) (Bad told) out = told ≡ fault
 Tells frame (Says said) outcome out = TellsEach (items_in frame) said outcome out
 -- nothing else is told
 Tells frame answer outcome out = ⊥
+
+-- these bytes hold the object
+abbrev pub IsHeldIn : List ℕ → Object → Type 0
+IsHeldIn bytes (KvObject records pairs) = pairs ≡ pairs_in records bytes
+
+-- each object lies in the space of the offload of its number
+abbrev pub LieIn : PageStore → List Object → Type 0
+LieIn store objects = (number : ℕ) → IfSome (slice_get objects number) (IsHeldIn (contents_of number store))
+
+-- the entry of the page that the request accesses is the latest used one, or isn't there
+abbrev pub IsUsed : Cached → ℕ → Request → Type 0
+IsUsed cache pid (request.Read addr len) = IsLatest cache (pid, page_of addr)
+IsUsed cache pid (request.Write addr bytes) = IsLatest cache (pid, page_of addr)
+IsUsed cache pid (request.Atomic addr op) = IsLatest cache (pid, page_of addr)
+-- no other request accesses one page
+IsUsed cache pid other = Unit {0}
+
+-- the outcome tells that a request was executed anew, whose page is then the latest used one
+abbrev pub Uses : Cached → ℕ → Request → Outcome → Type 0
+Uses cache pid request (Replied len Executed status) = IsUsed cache pid request
+Uses cache pid request (Replied len Looked status) = IsUsed cache pid request
+-- nothing was executed
+Uses cache pid request other = Unit {0}
+
+-- where the outcome tells that nothing was executed anew, the entries that were used of late are as before
+abbrev pub KeepsCache : Outcome → Cached → Cached → Type 0
+KeepsCache (Replied len Executed status) before after = Unit {0}
+KeepsCache (Replied len Looked status) before after = Unit {0}
+KeepsCache other before after = after ≡ before
 
 -- the item of a request that borrows its bytes
 abbrev pub item_of : Head → RequestRef → Item

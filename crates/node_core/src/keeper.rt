@@ -2,13 +2,13 @@
 
 ghost use Rattle.std.specs.Prelude.{◌≡◌, ◌+◌, ◌≤◌, [], true, length, IfOk, IsTrue};
 ghost use Rattle.cl_types.specs.Requests.{request_of};
-ghost use Rattle.flat_model.specs.Frames.{IsHead, kind_of, request_in};
+ghost use Rattle.flat_model.specs.Frames.{IsHead, head_in, kind_of, request_in};
 ghost use Rattle.flat_model.specs.Handling.{Executes, Looks, latest};
 ghost use Rattle.flat_model.specs.Nodes.{handles, keeping, node_answer, node_given};
 ghost use Rattle.flat_model.specs.Ranges.{is_in_range};
 ghost use Rattle.flat_model.specs.Step.{outcome};
 ghost use Rattle.node_core.specs.Fields.{handling_at, handling_of, reply_kept, IsSpelled, IsSpelledWhereRepeated};
-ghost use Rattle.node_core.specs.Keeping.{Tells, TellsReply, TellsSaid, item_of};
+ghost use Rattle.node_core.specs.Keeping.{KeepsCache, Tells, TellsReply, TellsSaid, Uses, item_of};
 ghost use Rattle.node_core.specs.Placed.{is_access};
 
 use crate::machine::Machine;
@@ -54,7 +54,7 @@ impl<M: Machine + Drop> Model for Keeper<M> {
 
     ghost Value = { KeptNode };
 
-    ghost view = { λ k. kept_node (M.flat k.machine) k.retry k.last };
+    ghost view = { λ k. kept_node (M.flat k.machine) (M.cache k.machine) k.retry k.last };
 
     ghost invariant = { λ k. IsSound k.retry k.last };
 }
@@ -82,6 +82,7 @@ impl<M: Machine + Drop> Keeper<M> {
         ensures { IfOk result (λ keeper. keeper ≡ record {
           node = record { flat = M.flat machine; records = []; retry = capacity };
           last = 0;
+          cache = M.cache machine;
         }) }
     {
         let retry = Retry::create(alloc, capacity)?;
@@ -94,7 +95,8 @@ impl<M: Machine + Drop> Keeper<M> {
 
     /// Its machine.
     pub fn machine(&self) -> &M
-        ensures { M.flat result.now ≡ self.now.node.flat }
+        ensures flat { M.flat result.now ≡ self.now.node.flat }
+        ensures cache { M.cache result.now ≡ self.now.cache }
     {
         &self.machine
     }
@@ -128,8 +130,11 @@ impl<M: Machine + Drop> Keeper<M> {
         ensures node { self.new ≡ record {
           node = node_given latest self.old.node now frame.now;
           last = now;
+          cache = self.new.cache;
         } }
         ensures answer { Tells frame.now (node_answer latest self.old.node now frame.now) result out.new }
+        ensures latest { Uses self.new.cache (head_in frame.now).pid (request_in frame.now) result }
+        ensures idle { KeepsCache result self.old.cache self.new.cache }
         ensures reads { is_access (request_in frame.now) ≡ true → reads.new ≤ reads.old + 1 }
         ensures takes { is_access (request_in frame.now) ≡ true → takes.new ≤ takes.old + 1 }
     {
@@ -154,9 +159,12 @@ impl<M: Machine + Drop> Keeper<M> {
         requires room { length out.old ≡ 1200 }
         ensures node { self.new ≡ record self.old {
           node = (keeping self.old.node self.old.last (item_of head.now request.now)).node;
+          cache = self.new.cache;
         } }
         ensures answer { let item = item_of head.now request.now in
             TellsSaid item (keeping self.old.node self.old.last item).said result out.new }
+        ensures latest { Uses self.new.cache head.now.pid (request_of request.now) result }
+        ensures idle { KeepsCache result self.old.cache self.new.cache }
         ensures reads { is_access (request_of request.now) ≡ true → reads.new ≤ reads.old + 1 }
         ensures takes { is_access (request_of request.now) ≡ true → takes.new ≤ takes.old + 1 }
     {
@@ -202,9 +210,11 @@ impl<M: Machine + Drop> Keeper<M> {
         requires range { IsTrue (is_in_range (request_of request.now)) }
         requires room { length out.old ≡ 1200 }
         requires looks { handling_at self.old (item_of head.now request.now) ≡ Looks }
-        ensures node { self.new ≡ self.old }
+        ensures node { self.new ≡ record self.old { cache = self.new.cache } }
         ensures answer { let reply = (outcome self.old.node.flat head.now.pid (request_of request.now)).reply in
             TellsReply head.now (kind_of (request_of request.now)) How.Looked reply result out.new }
+        ensures latest { Uses self.new.cache head.now.pid (request_of request.now) result }
+        ensures idle { KeepsCache result self.old.cache self.new.cache }
         ensures reads { is_access (request_of request.now) ≡ true → reads.new ≤ reads.old + 1 }
         ensures takes { is_access (request_of request.now) ≡ true → takes.new ≤ takes.old + 1 }
     {
@@ -233,9 +243,12 @@ impl<M: Machine + Drop> Keeper<M> {
         ensures node { let item = item_of head.now request.now in
             self.new ≡ record self.old {
               node = (handles latest self.old.node self.old.last item Executes).node;
+              cache = self.new.cache;
             } }
         ensures answer { let reply = (outcome self.old.node.flat head.now.pid (request_of request.now)).reply in
             TellsReply head.now (kind_of (request_of request.now)) How.Executed reply result out.new }
+        ensures latest { Uses self.new.cache head.now.pid (request_of request.now) result }
+        ensures idle { KeepsCache result self.old.cache self.new.cache }
         ensures reads { is_access (request_of request.now) ≡ true → reads.new ≤ reads.old + 1 }
         ensures takes { is_access (request_of request.now) ≡ true → takes.new ≤ takes.old + 1 }
     {

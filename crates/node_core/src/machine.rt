@@ -5,6 +5,7 @@ ghost use Rattle.cl_types.specs.Requests.{request_of};
 ghost use Rattle.flat_model.specs.Frames.{kind_of};
 ghost use Rattle.flat_model.specs.Ranges.{is_in_range};
 ghost use Rattle.flat_model.specs.Step.{outcome};
+ghost use Rattle.node_core.specs.Keeping.{IsUsed};
 ghost use Rattle.node_core.specs.Placed.{may_place, placed_in, is_access};
 
 use crate::placed::PlacedReply;
@@ -16,9 +17,13 @@ use std::sync::ledger::Ledger;
 /// A flat machine: address spaces of processes, and the objects of the offloads.
 pub trait Machine {
     ghost use Rattle.flat_model.specs.State.{FlatState};
+    ghost use Rattle.translate_cache.specs.Cached.{Cached};
 
     /// What it means.
     ghost flat: { Self → FlatState };
+
+    /// The entries of its page table that were used of late.
+    ghost cache: { Self → Cached };
 
     /// Executes a request of a process. The bytes of its reply, where it has any, are put at their
     /// place in the frame `out`, and nothing of it counts otherwise.
@@ -37,6 +42,7 @@ pub trait Machine {
         ensures state { flat self.new
             ≡ (outcome (flat self.old) pid (request_of request.now)).state }
         ensures fits { IsTrue (may_place (kind_of (request_of request.now)) result) }
+        ensures latest { IsUsed (cache self.new) pid (request_of request.now) }
         ensures reads { is_access (request_of request.now) ≡ true → reads.new ≤ reads.old + 1 }
         ensures takes { is_access (request_of request.now) ≡ true → takes.new ≤ takes.old + 1 };
 }

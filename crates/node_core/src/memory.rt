@@ -1,51 +1,56 @@
-//! `Memory`: the pages of a node, as a machine.
+//! `Memory`: the pages and the objects of a node, as a machine.
 
-ghost use Rattle.std.specs.Prelude.{◌≡◌, ◌+◌, ◌<◌, ◌≤◌, [], None, IfErr, IfOk, IsTrue, length, option_map};
+ghost use Rattle.std.specs.Prelude.{◌≡◌, ◌+◌, ◌<◌, ◌≤◌, None, Err, IfErr, IfOk, MatchOption};
+ghost use Rattle.std.specs.Prelude.{length, option_map};
 ghost use Rattle.cl_types.specs.Bytes.{bytes_at};
-ghost use Rattle.cl_types.specs.Places.{is_bucket_count};
+ghost use Rattle.cl_types.specs.Config.{bad_number_of};
 ghost use Rattle.cl_types.specs.Requests.{request_of};
 ghost use Rattle.cl_types.specs.declared.limits.TheConstants.{ADDRESS_END, PAGE_BYTES};
 ghost use Rattle.cl_types.specs.declared.reply.Refusal.TheVariants.{NoMapping};
 ghost use Rattle.data_path.specs.Access.{IsPiece};
 ghost use Rattle.data_path.specs.Store.{IsWhole, flat_of, memory_of};
+ghost use Rattle.flat_model.specs.Opening.{open_fault};
 ghost use Rattle.flat_model.specs.Pages.{offset_of, page_of};
-ghost use Rattle.flat_model.specs.State.{bytes_of, page_at, used};
-ghost use Rattle.node_core.specs.Keeping.{shown_in};
+ghost use Rattle.flat_model.specs.State.{bytes_of, opening, page_at, used};
+ghost use Rattle.node_core.specs.Keeping.{LieIn, shown_in};
 ghost use Rattle.node_core.specs.Placed.{is_offload};
 ghost use Rattle.page_pool.specs.PoolPages.{IsReady};
 
 use crate::machine::Machine;
-use crate::pages;
 use crate::placed::PlacedReply;
-use cl_types::items::NoMemory;
+use crate::{offloads, pages};
+use cl_types::config::NodeConfig;
 use cl_types::numbers::{Addr, Pid, Space16};
 use cl_types::reply::Refusal;
 use cl_types::request::RequestRef;
 use cl_types::steps::Steps;
 use data_path::{PageStore, offset_of, page_of};
+use flat_model::open_fault::OpenFault;
+use offload_host::Host;
 use std::alloc::Global;
 use std::marker::Model;
 use std::sync::ledger::Ledger;
 
-/// The pages of a node without offloads. A clause sees them as the flat state that they mean.
+/// The pages of a node and its objects. A clause sees them as the flat state that they mean,
+/// and the entries of the page table that were used of late.
 #[derive(Drop)]
 pub struct Memory {
     store: PageStore,
+    // The objects, each of which lies in the space of its offload.
+    host: Host,
     // How many physical pages there are.
     pages: u32,
 }
 
 impl Model for Memory {
-    ghost use Rattle.std.specs.Prelude.{[]};
-    ghost use Rattle.data_path.specs.Store.{flat_of, memory_of};
-    ghost use Rattle.flat_model.specs.State.{FlatState};
-    ghost use Rattle.node_core.specs.Stores.{IsStore};
+    ghost use Rattle.node_core.specs.Keeping.{KeptMemory};
+    ghost use Rattle.node_core.specs.Stores.{FieldsFit, state_in};
 
-    ghost Value = { FlatState };
+    ghost Value = { KeptMemory };
 
-    ghost view = { λ m. flat_of [] (memory_of m.store) };
+    ghost view = { λ m. record { flat = state_in m.host m.store; cache = m.store.cache } };
 
-    ghost invariant = { λ m. IsStore m.store m.pages };
+    ghost invariant = { λ m. FieldsFit m.store m.host m.pages };
 }
 
 /// Whether it is a request of an object.
@@ -56,37 +61,38 @@ fn is_offload(request: &RequestRef) -> bool
 }
 
 impl Memory {
-    /// So many pages, all free, of which at most `ring` are at hand, and so many buckets. Nothing is
-    /// mapped. `NoMemory` comes where an allocation was refused.
-    pub fn create(alloc: Global, pages: u32, buckets: u32, ring: u32) -> Result<Memory, NoMemory>
-        requires pages { pages ≤ 65536 }
-        requires buckets { IsTrue (is_bucket_count buckets) }
-        requires ring { 1 ≤ ring }
-        ensures { IfOk result (λ memory. memory ≡ record {
-          map = [];
-          ranges = [];
-          objects = [];
-          held = [];
-          pages = pages;
-          buckets = buckets;
-        }) }
+    /// The memory of a node at its opening, or why it doesn't open: a bad number, and an offload
+    /// without room, is told whether there is memory or not.
+    pub fn create(alloc: Global, config: &NodeConfig) -> Result<Memory, OpenFault>
+        ensures opened { IfOk result (λ memory. memory.flat ≡ opening config.now) }
+        ensures good { IfOk result (λ memory. bad_number_of config.now ≡ None) }
+        ensures fault { MatchOption (open_fault config.now)
+            (IfErr result (λ fault. fault ≡ OpenFault.NoMemory)) (λ fault. result ≡ Err fault) }
     {
-        let store = PageStore::empty(alloc, pages, buckets, ring)?;
-        Ok(Memory { store, pages })
+        let mut store = PageStore::create(alloc, config)?;
+        let host = Host::create(alloc, &config.offloads)?;
+        offloads::init_spaces(&mut store, &host);
+        Ok(Memory {
+            store,
+            host,
+            pages: config.pages as u32,
+        })
     }
 
     /// The page store in which the pages are kept.
     pub fn store(&self) -> &PageStore
         ensures whole { IsWhole result.now }
         ensures ready { IsReady result.now.pool }
-        ensures memory { flat_of [] (memory_of result.now) ≡ self.now }
+        ensures memory { flat_of self.now.flat.objects (memory_of result.now) ≡ self.now.flat }
+        ensures objects { LieIn result.now self.now.flat.objects }
+        ensures cache { result.now.cache ≡ self.now.cache }
     {
         &self.store
     }
 
     /// How many physical pages are taken.
     pub fn used(&self) -> u32
-        ensures { result ≡ used self.now }
+        ensures { result ≡ used self.now.flat }
     {
         self.pages - self.store.pool.free_count()
     }
@@ -97,7 +103,7 @@ impl Memory {
         requires { IsPiece addr (length out.old) }
         ensures shown { shown_in result out.new ≡ option_map
             (λ page. bytes_at (offset_of addr) (length out.old) (bytes_of page))
-            (page_at self.now pid (page_of addr)) }
+            (page_at self.now.flat pid (page_of addr)) }
         ensures refused { IfErr result (λ refusal. refusal ≡ NoMapping) }
     {
         let space = Space16(pid.number());
@@ -117,7 +123,9 @@ impl Memory {
 }
 
 impl Machine for Memory {
-    ghost flat = { λ m. m };
+    ghost flat = { λ m. m.flat };
+
+    ghost cache = { λ m. m.cache };
 
     fn execute<A: Ledger, B: Ledger>(
         &mut self,
@@ -127,10 +135,9 @@ impl Machine for Memory {
         reads: &mut Steps<A>,
         takes: &mut Steps<B>,
     ) -> PlacedReply {
-        let store = &mut self.store;
         if is_offload(request) {
-            return PlacedReply::Refused(Refusal::NoOffload);
+            return offloads::execute(&mut self.store, &mut self.host, request, out);
         }
-        pages::execute(store, pid, request, out, reads, takes)
+        pages::execute(&mut self.store, pid, request, out, reads, takes)
     }
 }

@@ -1,24 +1,24 @@
 //! `Node`: the keeping node over its pages.
 
-ghost use Rattle.std.specs.Prelude.{◌≡◌, ◌+◌, ◌≤◌, [], true, Err, IfErr, IfOk, MatchOption, length, option_map};
+ghost use Rattle.std.specs.Prelude.{◌≡◌, ◌+◌, ◌≤◌, true, Err, IfErr, IfOk, MatchOption, length, option_map};
 ghost use Rattle.cl_types.specs.Bytes.{bytes_at};
 ghost use Rattle.cl_types.specs.declared.reply.Refusal.TheVariants.{NoMapping};
 ghost use Rattle.data_path.specs.Access.{IsPiece};
 ghost use Rattle.data_path.specs.Store.{IsWhole, flat_of, memory_of};
-ghost use Rattle.flat_model.specs.Frames.{request_in};
+ghost use Rattle.flat_model.specs.Frames.{head_in, request_in};
 ghost use Rattle.flat_model.specs.Handling.{latest};
 ghost use Rattle.flat_model.specs.Nodes.{node_answer, node_given, opening_node};
 ghost use Rattle.flat_model.specs.Opening.{open_fault};
 ghost use Rattle.flat_model.specs.Pages.{offset_of, page_of};
 ghost use Rattle.flat_model.specs.State.{bytes_of, page_at, used};
-ghost use Rattle.node_core.specs.Keeping.{Tells, shown_in};
+ghost use Rattle.node_core.specs.Keeping.{KeepsCache, LieIn, Tells, Uses, shown_in};
 ghost use Rattle.node_core.specs.Placed.{is_access};
 ghost use Rattle.page_pool.specs.PoolPages.{IsReady};
 
 use crate::keeper::Keeper;
 use crate::memory::Memory;
 use crate::outcome::Outcome;
-use cl_types::config::{NodeConfig, bad_number};
+use cl_types::config::NodeConfig;
 use cl_types::numbers::{Addr, Pid};
 use cl_types::reply::Refusal;
 use cl_types::steps::Steps;
@@ -28,7 +28,8 @@ use std::alloc::Global;
 use std::marker::Model;
 use std::sync::ledger::Ledger;
 
-/// A node without offloads. A clause sees it as the keeping node, and its latest moment.
+/// A node. A clause sees it as the keeping node, its latest moment, and the entries of its page
+/// table that were used of late.
 ///
 /// `step` handles a frame; `last`, `peek`, `used`, `retained` and `store` only look.
 #[derive(Drop)]
@@ -45,26 +46,18 @@ impl Model for Node {
 }
 
 impl Node {
-    /// The node of a configuration without offloads at its opening, or why it doesn't open: a bad
-    /// number is told whether there is memory or not.
+    /// The node of a configuration at its opening, or why it doesn't open: a bad number, and an
+    /// offload without room, is told whether there is memory or not.
     pub fn create(alloc: Global, config: &NodeConfig) -> Result<Node, OpenFault>
-        requires { config.now.offloads ≡ [] }
         ensures opened { IfOk result (λ node. node ≡ record {
           node = opening_node config.now;
           last = 0;
+          cache = node.cache;
         }) }
         ensures fault { MatchOption (open_fault config.now)
             (IfErr result (λ fault. fault ≡ OpenFault.NoMemory)) (λ fault. result ≡ Err fault) }
     {
-        if let Some((field, value)) = bad_number(config) {
-            return Err(OpenFault::BadConfig { field, value });
-        }
-        let memory = Memory::create(
-            alloc,
-            config.pages as u32,
-            config.buckets as u32,
-            config.ring as u32,
-        )?;
+        let memory = Memory::create(alloc, config)?;
         let keeper = Keeper::create(alloc, memory, config.retry as u32)?;
         Ok(Node { keeper })
     }
@@ -84,8 +77,11 @@ impl Node {
         ensures node { self.new ≡ record {
           node = node_given latest self.old.node now frame.now;
           last = now;
+          cache = self.new.cache;
         } }
         ensures answer { Tells frame.now (node_answer latest self.old.node now frame.now) result out.new }
+        ensures latest { Uses self.new.cache (head_in frame.now).pid (request_in frame.now) result }
+        ensures idle { KeepsCache result self.old.cache self.new.cache }
         ensures reads { is_access (request_in frame.now) ≡ true → reads.new ≤ reads.old + 1 }
         ensures takes { is_access (request_in frame.now) ≡ true → takes.new ≤ takes.old + 1 }
     {
@@ -130,7 +126,9 @@ impl Node {
     pub fn store(&self) -> &PageStore
         ensures whole { IsWhole result.now }
         ensures ready { IsReady result.now.pool }
-        ensures memory { flat_of [] (memory_of result.now) ≡ self.now.node.flat }
+        ensures memory { flat_of self.now.node.flat.objects (memory_of result.now) ≡ self.now.node.flat }
+        ensures objects { LieIn result.now self.now.node.flat.objects }
+        ensures cache { result.now.cache ≡ self.now.cache }
     {
         self.keeper.machine().store()
     }

@@ -6,10 +6,12 @@ ghost use Rattle.cl_types.specs.declared.reply.Reply.TheVariants.{Nothing, At, W
 ghost use Rattle.cl_types.specs.Places.{is_process};
 ghost use Rattle.cl_types.specs.Requests.{request_of};
 ghost use Rattle.data_path.specs.Access.{reply_in};
-ghost use Rattle.data_path.specs.Store.{memory_of, IsWhole};
+ghost use Rattle.data_path.specs.Store.{memory_of, IsLatest, IsWhole};
 ghost use Rattle.flat_model.specs.Frames.{kind_of};
+ghost use Rattle.flat_model.specs.Pages.{page_of};
 ghost use Rattle.flat_model.specs.Ranges.{is_in_range, is_page_count, is_piece};
 ghost use Rattle.flat_model.specs.Step.{alloc, outcome, read};
+ghost use Rattle.node_core.specs.Keeping.{IsUsed};
 ghost use Rattle.node_core.specs.Placed.{is_access, is_offload, may_place, placed_in};
 ghost use Rattle.page_pool.specs.PoolPages.{IsReady};
 
@@ -65,6 +67,7 @@ fn read_placed<A: Ledger>(
     ensures whole { IsWhole store.new }
     ensures ready { IsReady store.new.pool }
     ensures spaces { store.new.spaces ≡ store.old.spaces }
+    ensures latest { IsLatest store.new.cache (pid, page_of addr) }
     ensures cost { reads.new ≤ reads.old + 1 }
 {
     let (_, tail) = out.split_at_mut(VALUE_AT);
@@ -118,6 +121,7 @@ pub fn execute<A: Ledger, B: Ledger>(
     ensures whole { IsWhole store.new }
     ensures ready { IsReady store.new.pool }
     ensures spaces { store.new.spaces ≡ store.old.spaces }
+    ensures latest { IsUsed store.new.cache pid (request_of request.now) }
     ensures reads { is_access (request_of request.now) ≡ true → reads.new ≤ reads.old + 1 }
     ensures takes { is_access (request_of request.now) ≡ true → takes.new ≤ takes.old + 1 }
 {

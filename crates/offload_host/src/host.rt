@@ -86,6 +86,13 @@ impl Host {
         Ok(Host { offloads: copy })
     }
 
+    /// How many offloads there are: at most 16, which have the numbers below it.
+    pub fn count(&self) -> u8
+        ensures { result ≡ length self.now }
+    {
+        self.offloads.len() as u8
+    }
+
     // The offload of this number.
     fn offload(&self, no: u8) -> OffloadConfig
         requires { no < length self.now }

@@ -1,5 +1,5 @@
 -- The bytes stand at their place, behind the header and the status.
-use Rattle.std.proofs.Common.{◌≡◌, ℕ, length, ap, ◌∙◌}
+use Rattle.std.proofs.Common.{◌≡◌, length, ap, ◌∙◌}
 use Rattle.cl_types.specs.declared.reply.Reply.TheVariants.{Got}
 use Rattle.data_path.specs.Store.{memory_of}
 use Rattle.flat_model.specs.Step.{read}
