@@ -60,7 +60,8 @@ use Rattle.account_laws.proofs.SameParts.{eqb_is, same_clients}
 use Rattle.account_laws.proofs.Spelled.{frames_are_spelled, replies_are_heard, rises_from_zero}
 use Rattle.account_laws.proofs.TimesKept.{frame_at_each}
 use Rattle.account_laws.proofs.WindowKept.{one_account}
-use Rattle.world.specs.Worlds.{World, Note, Stepped, arrived, call_judged, client_heard, client_in, deliver, delivered, garbage, node_judged, node_said, node_stepped, note_on, out_text, peeked, polled, shown, shows, step, taken_entry, with_client, with_found, with_next}
+use Rattle.world.specs.declared.note.Note.{Note}
+use Rattle.world.specs.Worlds.{World, Stepped, arrived, call_judged, client_heard, client_in, deliver, delivered, garbage, node_judged, node_said, node_stepped, note_on, out_text, peeked, polled, shown, shows, step, taken_entry, with_client, with_found, with_next}
 use Rattle.world.specs.Follows.{HaveNotes, IsNoteOf, Stands, StandsOn, WorldsFollow, sent_as}
 
 -- ---- clients

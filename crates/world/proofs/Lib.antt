@@ -1,1 +1,14 @@
 pub mod Follows
+pub mod ShowLemmas
+pub mod CopyLemmas
+pub mod IssueLemmas
+pub mod ClientLemmas
+pub mod NodeLemmas
+pub mod TurnLemmas
+pub mod ListenLemmas
+pub mod Results
+pub mod StepLemmas
+pub mod HistoryLemmas
+pub mod Sound
+pub mod Beginning
+pub mod Standing

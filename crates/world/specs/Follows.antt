@@ -12,7 +12,8 @@ use Rattle.flat_model.specs.Nodes.{opening_node}
 use Rattle.account_laws.specs.NodeLines.{node_at}
 use Rattle.account_laws.specs.ReadSchedules.{IsGood}
 use Rattle.account_laws.specs.Times.{clock}
-use Rattle.world.specs.Worlds.{World, Note, Stepped, step}
+use Rattle.world.specs.declared.note.Note.{Note}
+use Rattle.world.specs.Worlds.{World, Stepped, step}
 
 -- ---- when a world stands for events
 -- a frame of the account, as the link has it

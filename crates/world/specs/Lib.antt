@@ -1,2 +1,5 @@
 pub mod Worlds
 pub mod Follows
+pub mod Running
+pub mod Fields
+pub mod Saying

@@ -31,13 +31,9 @@ use Rattle.flat_model.specs.Issue.{issue_fault}
 use Rattle.flat_model.specs.Nodes.{Node, NodeStep, Said, Gives, IsBusy, step_item}
 use Rattle.flat_model.specs.Pages.{offset_of, page_of}
 use Rattle.flat_model.specs.State.{Page, bytes_of, page_at, used}
+use Rattle.world.specs.declared.note.Note.{Note}
 
 -- ---- what a world is
--- a note on a frame: the part that it carries, and where a look made it the request that it answers
-pub record Note : Type 0 where
-  pub part : Part
-  pub looked : Option Request
-
 -- a world: the moment, its node and clients, the frames that were sent with a note on each, and the history
 pub record World : Type 0 where
   pub moment : ℕ
@@ -191,6 +187,10 @@ with_next w go None = shows w did.NoFrame
 with_next w go (Some k) = go (record w { link = next_handed w.link }) k
 
 -- ---- what only shows
+-- time goes on by so many ticks
+abbrev pub ticked : World → ℕ → Stepped
+ticked w by = shows (record w { moment = w.moment + by }) (did.Now (w.moment + by))
+
 -- a page's bytes from the address on, whatever its permission
 abbrev pub peeked : Addr → ℕ → Option Page → Did
 peeked addr n None = did.PeekNoMapping
@@ -214,7 +214,7 @@ step w l (event.Poll client) = with_found w (client_in w.clients client) (λ s. 
 step w l (event.Deliver frame) = deliver w l frame
 step w l event.DeliverNext = with_next w (λ v k. deliver v l k) (next_number w.link)
 step w l event.Drop = with_next w (λ v k. shows v (did.Dropped k)) (next_number w.link)
-step w l (event.Tick by) = shows (record w { moment = w.moment + by }) (did.Now (w.moment + by))
+step w l (event.Tick by) = ticked w by
 step w l (event.Peek pid addr len) = shows w (peeked addr len (page_at w.node.flat pid (page_of addr)))
 step w l (event.Show frame) = shows w (shown frame (frame_at w.link frame))
 step w l event.Stat = shows w (did.Stat (used w.node.flat) (length w.node.records))

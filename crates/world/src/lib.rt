@@ -1,7 +1,30 @@
 //! A simulated world: a node, clients, and a link that loses, repeats and reorders frames.
 //!
-//! So far what it is and does, as a machine over node, clients and link, and the law that this machine follows the account
-//! of a schedule. The program over real bytes is to come.
+//! A contract sees a `World` as the machine over its node, clients and link (`Worlds.antt`), the line
+//! of its latest event, and whether it is spent: `Running`. Each event is one step of that machine,
+//! and the laws say that the machine follows the account of a schedule. Reading a schedule and
+//! printing lines is left to others.
+//!
+//! Inside, `Whole` holds the parts. What node and clients say on the way is a value of its own
+//! (`Said`, `Listened`, `Turned`), and `Saying.antt` has the step that each stands for.
 #![tactic(auto)]
 
+mod ask;
+mod copies;
+mod create;
+mod happen;
+mod history;
+mod issue;
 pub mod laws;
+mod listen;
+mod note;
+mod show;
+mod steps;
+mod turn;
+mod whole;
+mod world;
+
+pub use cl_types::items::NoMemory;
+pub use flat_model::open_fault::OpenFault;
+pub use note::Note;
+pub use world::World;

@@ -1,0 +1,35 @@
+-- A reply that was taken has no fault.
+use Rattle.std.proofs.Common.{◌≡◌, ℕ, List, Option, Some, None, refl, ◌⊎◌, inl, inr}
+use Rattle.cl_types.specs.declared.frame.BadFrame.{BadFrame}
+use Rattle.cl_types.specs.declared.reply.Part.{Part}
+use Rattle.client_core.specs.Answers.{heard_answer, heard_as}
+use Rattle.client_core.specs.declared.answers.Heard.{Heard}
+use Rattle.client_core.specs.declared.answers.Heard.TheVariants as heard
+use Rattle.flat_model.specs.Client.{ClientState}
+use Rattle.flat_model.specs.Frames.{reply_fault}
+use Rattle.flat_model.specs.Hearing.{Hearing, HearsBad, HearsOther, HearsLate, HearsUnfit, HearsReply, heard_judged, hearing}
+use Rattle.world.specs.Saying.{state_heard}
+
+pub as_heard : (s : ClientState) (bytes : List ℕ) → heard_as s bytes ≡ hearing s bytes
+unfolding heard_as
+as_heard s bytes = refl
+
+-- the answer tells that the reply to this part was taken
+abbrev pub Takes : Part → Heard → Type 0
+Takes part answer = (heard.Took part ≡ answer) ⊎ (heard.Ended part ≡ answer)
+
+pub faultless : (s : ClientState) (bytes : List ℕ) (part : Part) → Takes part (heard_answer s (heard_as s bytes)) → reply_fault bytes ≡ None
+unfolding heard_as
+faultless s bytes part takes = go (reply_fault bytes) takes where
+  go : (o : Option BadFrame) → Takes part (heard_answer s (heard_judged s bytes o)) → o ≡ None
+  go (Some f) (inl is) = absurd cc
+  go (Some f) (inr is) = absurd cc
+  go None takes = refl
+
+-- hearing leaves a client its number
+pub heard_client : (s : ClientState) (h : Hearing) → (state_heard s h).client ≡ s.client
+heard_client s (HearsReply f reply) = refl
+heard_client s (HearsLate orig) = refl
+heard_client s (HearsUnfit orig) = refl
+heard_client s (HearsOther client) = refl
+heard_client s (HearsBad fault) = refl

@@ -1,0 +1,29 @@
+-- A running world: what a contract sees of it, and what its calls tell and ask.
+use Rattle.std.specs.Prelude.{ℕ, ◌≤◌, Bool, map}
+use Rattle.cl_types.specs.declared.config.Config.{Config}
+use Rattle.cl_types.specs.declared.line.EventLine.{EventLine}
+use Rattle.cl_types.specs.declared.schedule.Event.{Event}
+use Rattle.cl_types.specs.declared.schedule.Event.TheVariants as event
+use Rattle.client_core.specs.Valid.{AreApart}
+use Rattle.data_path.specs.Access.{IsPiece}
+use Rattle.world.specs.Worlds.{World, Stepped}
+
+-- a running world: the world, the line of its latest event, and whether an event has wanted memory and found none
+pub record Running : Type 0 where
+  pub world : World
+  pub line : ℕ
+  pub spent : Bool
+
+-- what an event did, told in its line, and the world after it
+abbrev pub stepped : EventLine → World → Stepped
+stepped told w = record { did = told.did; ended = told.ended; world = w }
+
+-- no two clients have one number
+abbrev pub HaveNumbersApart : Config → Type 0
+HaveNumbersApart config = AreApart (map (λ given. given.0.0) config.clients)
+
+-- time goes on by at most 1,000,000,000 ticks at once, and the bytes that are shown lie in one page
+abbrev pub IsFair : Event → Type 0
+IsFair (event.Tick by) = by ≤ 1000000000
+IsFair (event.Peek pid addr len) = IsPiece addr len
+IsFair other = Unit {0}
