@@ -2,7 +2,7 @@
 #![tactic(auto)]
 
 use cl_outside::{StdSink, StdSource};
-use clio_cli::{Words, run};
+use clio_cli::{Left, Words, run};
 use std::io::ErrorKind;
 use std::process::ExitCode;
 use std::{env, io};
@@ -36,5 +36,6 @@ fn main(rt: HostRuntime) -> ExitCode {
     };
     let mut source = StdSource::create(rt.reader());
     let mut sink = StdSink::create(io::writer(&rt));
-    ExitCode::from(run(rt.alloc(), &words, &mut source, &mut sink))
+    let mut left = Left::Nothing;
+    ExitCode::from(run(rt.alloc(), &words, &mut source, &mut sink, &mut left))
 }

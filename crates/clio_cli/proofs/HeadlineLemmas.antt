@@ -1,9 +1,8 @@
 -- The laws of the account, for every schedule that was read.
-use Rattle.std.proofs.Common.{◌≡◌, ℕ, List, Option, Ok}
+use Rattle.std.proofs.Common.{◌≡◌, ◌∙◌, ℕ, List, Ok, subst, sym}
 use Rattle.cl_types.specs.declared.schedule.Schedule.{Schedule}
 use Rattle.flat_model.specs.Events.{account}
 use Rattle.flat_model.specs.Grammar.{schedule_of}
-use Rattle.flat_model.specs.Text.{Text}
 use Rattle.account_laws.specs.ReadSchedules.{IsGood}
 use Rattle.account_laws.specs.Schedules.{AreTyped, IsRisingFrom}
 use Rattle.account_laws.proofs.AnswersKept.{law_of_parts}
@@ -13,10 +12,14 @@ use Rattle.account_laws.proofs.RunKept.{law_of_runs}
 use Rattle.account_laws.proofs.Spelled.{rises_from_zero}
 use Rattle.account_laws.proofs.StandsKept.{law_of_stands}
 use Rattle.account_laws.proofs.TimesKept.{law_of_times}
-use Rattle.clio_cli.specs.Headline.{EndsInHeadline, Headline}
-use Rattle.clio_cli.specs.Run.{EndsWith, Outside}
-use Rattle.clio_cli.proofs.BuiltLemmas.{built_schedule_is}
-use Rattle.clio_cli.proofs.RunLemmas.{succeeded}
+use Rattle.clio_cli.specs.Headline.{EndsInHeadline, Headline, LeavesNothing}
+use Rattle.clio_cli.specs.Run.{Outside}
+use Rattle.clio_cli.specs.Status.{number_of}
+use Rattle.clio_cli.specs.Wanted.{Keeps}
+use Rattle.clio_cli.specs.declared.left.Left.{Left}
+use Rattle.clio_cli.specs.declared.status.Status.{Status}
+use Rattle.clio_cli.specs.declared.status.Status.TheVariants as status
+use Rattle.clio_cli.proofs.RunLemmas.{one_status}
 
 -- the account of a schedule that was read keeps the headline
 pub headline_law : (bytes : List ℕ) (s : Schedule) → schedule_of bytes ≡ Ok s → Headline s.config (account s.config s.events)
@@ -34,19 +37,18 @@ headline_law bytes s is =
       times = law_of_times s.config s.events rising;
     }
 
--- what was written with success keeps it
-pub ends_in_headline : (words : List Text) (after : Outside) (number read_faults write_faults : ℕ) (written left : Option (List ℕ))
-    → EndsWith words (record { left = left; read_faults = read_faults; written = written; write_faults = write_faults }) after number
-    → EndsInHeadline (record { left = left; read_faults = read_faults; written = written; write_faults = write_faults }) after number
-ends_in_headline words after number read_faults write_faults written left end same =
-    let done = succeeded words after number read_faults write_faults written left end same in
-    let spelled = (built_schedule_is done.bytes done.schedule done.replayable.spelled).0 in
-    record {
-      bytes = done.bytes;
-      input = done.input;
-      schedule = done.schedule;
-      spelled = spelled;
-      replayable = done.replayable;
-      printed = done.printed;
-      headline = headline_law done.bytes done.schedule spelled;
-    }
+-- with success the transcript was written, its account keeps the headline, and the world is left
+pub ends_in_headline : (before after : Outside) (kept : Left) (number : ℕ) (st : Status) → number ≡ number_of st → Keeps before after kept st → EndsInHeadline before after kept number
+ends_in_headline before after kept number st is keeps same =
+    subst (Keeps before after kept) (one_status st status.Ok (sym is ∙ same)) keeps
+
+-- with any other status nothing is left
+pub leaves_nothing : (before after : Outside) (kept : Left) (number : ℕ) (st : Status) → number ≡ number_of st → Keeps before after kept st → LeavesNothing kept number
+leaves_nothing before after kept number status.Ok is keeps other = absurd (other is)
+leaves_nothing before after kept number status.BadWords is keeps other = keeps
+leaves_nothing before after kept number status.BadInput is keeps other = keeps
+leaves_nothing before after kept number status.ReadFault is keeps other = keeps
+leaves_nothing before after kept number status.WriteFault is keeps other = keeps
+leaves_nothing before after kept number status.NoMemory is keeps other = keeps
+leaves_nothing before after kept number status.TooLong is keeps other = keeps
+leaves_nothing before after kept number status.BadNode is keeps other = keeps

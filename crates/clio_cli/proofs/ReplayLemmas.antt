@@ -1,206 +1,233 @@
 -- The loop over the events of a schedule, and the whole transcript.
-use Rattle.std.proofs.Common.{◌≡◌, ℕ, ◌+◌, ◌-◌, ◌<◌, ◌≤◌, Bool, true, false, List, [], ◌∷◌, ◌++◌, Option, Some, None, refl, sym, ap, subst, ◌∙◌, length, get_or, arith, append-nil, append_assoc, length-append}
-use Rattle.std.specs.Prelude.{◌==◌, ◌&&◌, ◌^◌, codes, decimal, flat_map, slice_get}
-use Rattle.std.specs.List.{AllByRecursion as Each, list_all}
-use Rattle.std.proofs.lemmas.Bool.Decides.{nat_tests}
+use Rattle.std.proofs.Common.{◌≡◌, ℕ, ◌+◌, ◌-◌, ◌<◌, List, [], ◌∷◌, ◌++◌, Option, Some, None, refl, sym, ap, subst, ◌∙◌, length, map, arith, append-nil, append_assoc, length-append}
+use Rattle.std.specs.Prelude.{◌^◌, false, flat_map, slice_get}
+use Rattle.std.specs.List.{AllByRecursion as Each}
 use Rattle.std.proofs.lemmas.Grind.{flat_map-append}
+use Rattle.std.proofs.Math.Seq.{drop-nil}
+use Rattle.cl_outside.specs.Loops.{WroteFront}
+use Rattle.cl_outside.specs.Told.{Added}
 use Rattle.cl_types.specs.declared.config.Config.{Config}
-use Rattle.cl_types.specs.declared.line.EventLine.{EventLine}
 use Rattle.cl_types.specs.declared.line.Entry.{Entry}
-use Rattle.cl_types.specs.declared.numbers.ClientNo.{ClientNo}
+use Rattle.cl_types.specs.declared.line.EventLine.{EventLine}
 use Rattle.cl_types.specs.declared.schedule.Event.{Event}
 use Rattle.cl_types.specs.declared.schedule.Schedule.{Schedule}
 use Rattle.flat_model.specs.Account.{Account, Effect, Line, now, nothing_yet}
-use Rattle.flat_model.specs.Client.{new_client, poll, same_client}
-use Rattle.flat_model.specs.Clients.{pid_of}
-use Rattle.flat_model.specs.Events.{account, account_from, effect, keep_all, next_account}
-use Rattle.flat_model.specs.State.{FlatState, opening}
-use Rattle.flat_model.specs.Text.{Text, line_of}
-use Rattle.flat_model.specs.Texts.{account_text, entry_text, line_text, transcript}
+use Rattle.flat_model.specs.Events.{account_from, account_of_latest, effect, next_account}
+use Rattle.flat_model.specs.Handling.{latest}
+use Rattle.flat_model.specs.Nodes.{opening_node}
+use Rattle.flat_model.specs.State.{opening}
+use Rattle.flat_model.specs.Text.{Text}
+use Rattle.flat_model.specs.Texts.{account_text, entry_text, line_text, numbered_text, transcript}
+use Rattle.account_laws.specs.NodeLines.{node_at, record_at}
+use Rattle.account_laws.specs.ReadSchedules.{IsGood}
 use Rattle.account_laws.specs.Schedules.{IsRisingFrom}
-use Rattle.account_laws.proofs.Lists.{each_weaker}
-use Rattle.clio_cli.specs.Built.{is_built_schedule, is_built_with}
-use Rattle.clio_cli.specs.Engine.{IsFew, View, event_line, event_view, is_built_event, opening_view}
-use Rattle.clio_cli.specs.Replay.{After, event_text}
-use Rattle.clio_cli.specs.Stands.{SendsOne, Stands, Tells}
-use Rattle.clio_cli.proofs.Few.{few_next}
-use Rattle.clio_cli.proofs.Refine.{event_refines, later_good}
+use Rattle.account_laws.proofs.Lists.{each_slice_get}
+use Rattle.account_laws.proofs.Spelled.{rises_from_zero}
+use Rattle.account_laws.proofs.WindowKept.{one_account}
+use Rattle.world.specs.Follows.{Stands, StandsOn}
+use Rattle.transcript_text.specs.Statuses.{HasGoodStatus}
+use Rattle.world.specs.Running.{IsFair, Running, stepped}
+use Rattle.world.specs.Worlds.{Stepped, World, step}
+use Rattle.world.proofs.Follows.{worlds_follow}
+use Rattle.clio_cli.specs.Gathered.{Gathered}
+use Rattle.clio_cli.specs.Headline.{StandsBehind, last_line}
+use Rattle.clio_cli.specs.Replay.{After, IsServed, end_text, event_text, history_text, opened, step_text, text_of_events}
+use Rattle.clio_cli.proofs.GatherLemmas.{added_none, front_on, front_wider, gathered_all, gathered_on}
+use Rattle.clio_cli.proofs.StepLemmas.{good_step}
 
--- ---- events one by one
-account_push : (config : Config) (a : Account) (es : List (ℕ × Event)) (e : ℕ × Event) → account_from keep_all config a (es ++ e ∷ []) ≡ next_account keep_all config (account_from keep_all config a es) e
-account_push config a [] e = refl
-account_push config a (x ∷ es) e = account_push config (next_account keep_all config a x) es e
+-- ---- accounts
+module _ (keep : List Entry → List Entry) (config : Config) where
+  from_append : (a : Account) (es fs : List (ℕ × Event)) → account_from keep config a (es ++ fs) ≡ account_from keep config (account_from keep config a es) fs
+  from_append a [] fs = refl
+  from_append a (e ∷ es) fs = from_append (next_account keep config a e) es fs
+
+  -- events only add lines
+  lines_from : (a : Account) (es : List (ℕ × Event)) → (tail : List Line) × ((account_from keep config a es).lines ≡ a.lines ++ tail)
+  lines_from a [] = ([], sym (append-nil a.lines))
+  lines_from a (e ∷ es) =
+      let f : Effect = effect keep config a e.0 e.1 in
+      let line : List Line = record { number = e.0; moment = now a e.0; event = e.1; texts = f.texts; ended = f.ended } ∷ [] in
+      let rest = lines_from (next_account keep config a e) es in
+      (line ++ rest.0, rest.1 ∙ append_assoc a.lines line rest.0)
+
+-- the text of an account, the lines of its events and then those of its history
+account_text_is : (a : Account) → account_text a ≡ flat_map line_text a.lines ++ history_text a.history
+account_text_is a = append_assoc (flat_map line_text a.lines) (flat_map entry_text a.history) (end_text (length a.history))
+
+-- the transcript by the account whose node keeps its latest records
+pub transcript_by_latest : (s : Schedule) → IsServed s → transcript s ≡ s.header ++ account_text (account_of_latest s.config s.events)
+transcript_by_latest s served =
+    ap (λ (a : Account). s.header ++ account_text a) (one_account s.config s.events served.keeps (rises_from_zero s.events served.good.rising) served.good.typed)
+
+-- the text of some events is a front of the transcript
+text_begins : (s : Schedule) (done rest : List (ℕ × Event)) → IsServed s → s.events ≡ done ++ rest → (more : Text) × (transcript s ≡ text_of_events s done ++ more)
+unfolding text_of_events
+text_begins s done rest served split =
+    let a : Account = account_of_latest s.config done in
+    let b : Account = account_from (latest s.config.node.retry) s.config a rest in
+    let lines = lines_from (latest s.config.node.retry) s.config a rest in
+    let same : account_of_latest s.config s.events ≡ b = ap (account_of_latest s.config) split ∙ from_append (latest s.config.node.retry) s.config nothing_yet done rest in
+    let texts : flat_map line_text b.lines ≡ flat_map line_text a.lines ++ flat_map line_text lines.0 = ap (flat_map line_text) lines.1 ∙ flat_map-append line_text a.lines lines.0 in (
+      flat_map line_text lines.0 ++ history_text b.history,
+      transcript_by_latest s served ∙ ap (λ (x : Account). s.header ++ account_text x) same
+          ∙ ap (λ (t : Text). s.header ++ t) (account_text_is b)
+          ∙ ap (λ (t : Text). s.header ++ (t ++ history_text b.history)) texts
+          ∙ ap (λ (t : Text). s.header ++ t) (append_assoc (flat_map line_text a.lines) (flat_map line_text lines.0) (history_text b.history))
+          ∙ sym (append_assoc s.header (flat_map line_text a.lines) (flat_map line_text lines.0 ++ history_text b.history)),
+    )
+
+-- the text of one event more
+text_next : (s : Schedule) (done : List (ℕ × Event)) (l : ℕ) (e : Event) (w : World) → StandsOn s.config done l e (step w l e)
+    → text_of_events s (done ++ (l, e) ∷ []) ≡ text_of_events s done ++ event_text w l e
+unfolding text_of_events event_text
+text_next s done l e w on =
+    let a : Account = account_of_latest s.config done in
+    let f : Effect = effect (latest s.config.node.retry) s.config a l e in
+    let line : Line = record { number = l; moment = now a l; event = e; texts = f.texts; ended = f.ended } in
+    let same : account_of_latest s.config (done ++ (l, e) ∷ []) ≡ next_account (latest s.config.node.retry) s.config a (l, e) = from_append (latest s.config.node.retry) s.config nothing_yet done ((l, e) ∷ []) in
+    let last : line_text line ≡ step_text l (step w l e) = (λ i. line_text (record { number = l; moment = now a l; event = e; texts = on.told i; ended = on.ended i })) in
+    ap (λ (x : Account). s.header ++ flat_map line_text x.lines) same
+    ∙ ap (λ (t : Text). s.header ++ t) (flat_map-append line_text a.lines (line ∷ []) ∙ ap (λ (t : Text). flat_map line_text a.lines ++ t) (append-nil (line_text line) ∙ last))
+    ∙ sym (append_assoc s.header (flat_map line_text a.lines) (step_text l (step w l e)))
+
+-- the line that an event told
+module _ (w v : World) (l : ℕ) (e : Event) (told : EventLine) (is : stepped told v ≡ step w l e) where
+  pub told_good : HasGoodStatus told.did
+  told_good = subst (λ (s : Stepped). HasGoodStatus s.did) (sym is) (good_step w l e)
+
+  pub told_text : numbered_text l (told.did ∷ []) told.ended ≡ event_text w l e
+  unfolding event_text
+  told_text = ap (step_text l) is
+
+  pub told_world : v ≡ (step w l e).world
+  told_world = ap (λ (s : Stepped). s.world) is
+
+-- ---- fronts of good schedules
+rising_front : (xs ys : List (ℕ × Event)) (l : ℕ) → IsRisingFrom l (xs ++ ys) → IsRisingFrom l xs
+rising_front [] ys l r = tt
+rising_front (x ∷ xs) ys l r = (r.0, rising_front xs ys (x.0 + 1) r.1)
+
+each_front : {X : Type 0} (P : X → Type 0) (xs ys : List X) → Each P (xs ++ ys) → Each P xs
+each_front P [] ys h = tt
+each_front P (x ∷ xs) ys h = (h.0, each_front P xs ys h.1)
+
+good_front : (config : Config) (xs ys : List (ℕ × Event)) → IsGood config (xs ++ ys) → IsGood config xs
+good_front config xs ys good = record {
+  rising = rising_front xs ys 1 good.rising;
+  typed = each_front _ xs ys good.typed;
+  known = each_front _ xs ys good.known;
+  clients = good.clients;
+}
 
 -- the next of the events is the first of the rest
 next_is : (done rest : List (ℕ × Event)) (e : ℕ × Event) → slice_get (done ++ rest) (length done) ≡ Some e → (more : List (ℕ × Event)) × (rest ≡ e ∷ more)
-next_is [] [] e at = absurd (let no : ◌≡◌ {A = Option (ℕ × Event)} None (Some e) = at in grind arith)
+next_is [] [] e at = absurd (let never : ◌≡◌ {A = Option (ℕ × Event)} None (Some e) = at in grind arith)
 next_is [] (x ∷ more) e at = let same : x ≡ e = cc in (more, ap (λ y. y ∷ more) same)
 next_is (x ∷ done) rest e at = next_is done rest e at
 
--- what stands for a line stands for a later one
-stands_later : (config : Config) (c : ClientNo) (v : View) (a : Account) (l m : ℕ) → l ≤ m → Stands config c v a l → Stands config c v a m
-stands_later config c v a l m le st = record {
-  view = st.view;
-  gone = st.gone;
-  frames = st.frames;
-  taken = st.taken;
-  still = st.still;
-  earlier = each_weaker _ _ (λ (e : Entry) (lt : e.line < l). omega (arith, le, lt)) a.history st.earlier;
-  loads = each_weaker _ _ (later_good c l m le) v.waiting st.loads;
-}
+-- the line of the last event
+last_of : (done : List (ℕ × Event)) (e : ℕ × Event) → last_line (done ++ e ∷ []) ≡ e.0
+last_of [] e = refl
+last_of (x ∷ []) e = refl
+last_of (x ∷ y ∷ done) e = last_of (y ∷ done) e
 
--- the text of the lines with one more
-lines_more : (a : Account) (l : ℕ) (e : Event) (f : Effect) (line : EventLine) → Tells f line
-    → flat_map line_text (a.lines ++ record { number = l; moment = now a l; event = e; texts = f.texts; ended = f.ended } ∷ []) ≡ flat_map line_text a.lines ++ event_text l line
-lines_more a l e f line tells =
-    let last : Line = record { number = l; moment = now a l; event = e; texts = f.texts; ended = f.ended } in
-    flat_map-append line_text a.lines (last ∷ []) ∙ ap (λ text. flat_map line_text a.lines ++ text) (append-nil (line_text last))
-    ∙ (λ i. flat_map line_text a.lines ++ line_text (record { number = l; moment = now a l; event = e; texts = tells.texts i; ended = tells.ended i }))
-
-module _ (config : Config) (c : ClientNo) (events : List (ℕ × Event)) (i : ℕ) (v : View) (old now' : Text) (after : After config c events i v old now') (e : ℕ × Event) (at : slice_get events i ≡ Some e) where
+-- ---- one event more
+module _ (s : Schedule) (served : IsServed s) (i : ℕ) (w : Running) (held : Text) (before mid : Option (List ℕ)) (after : After s i w held before mid) (e : ℕ × Event) (at : slice_get s.events i ≡ Some e) where
   next : (more : List (ℕ × Event)) × (after.rest ≡ e ∷ more)
   next =
-      let here : slice_get (after.done ++ after.rest) (length after.done) ≡ Some e = ap (λ (es : List (ℕ × Event)). slice_get es (length after.done)) (sym after.split) ∙ ap (slice_get events) after.place ∙ at in
+      let here : slice_get (after.done ++ after.rest) (length after.done) ≡ Some e = ap (λ (es : List (ℕ × Event)). slice_get es (length after.done)) (sym after.split) ∙ ap (slice_get s.events) after.place ∙ at in
       next_is after.done after.rest e here
 
-  rising : IsRisingFrom after.line (e ∷ next.0)
-  rising = subst (IsRisingFrom after.line) next.1 after.rising
+  rising : IsRisingFrom (w.line + 1) (e ∷ next.0)
+  rising = subst (IsRisingFrom (w.line + 1)) next.1 after.rising
 
-  built : Each (λ (x : ℕ × Event). is_built_event c x.1 ≡ true) (e ∷ next.0)
-  built = subst (Each (λ (x : ℕ × Event). is_built_event c x.1 ≡ true)) next.1 after.built
+  split : s.events ≡ (after.done ++ e ∷ []) ++ next.0
+  split = after.split ∙ ap (λ es. after.done ++ es) next.1 ∙ sym (append_assoc after.done (e ∷ []) next.0)
 
-  -- the next event is built, and no count is too great yet
-  pub event_built : is_built_event c e.1 ≡ true
-  event_built = built.0
+  pub event_later : w.line < e.0
+  event_later = let r = rising.0 in omega (arith, r)
 
-  pub counts_few : IsFew (e.0 - 1) v
-  counts_few =
-      let a = after.few.issued in let b = after.few.sendings in let d = after.few.sent in let f = after.few.handed in let late = after.late in let r = rising.0 in
-      record { issued = omega (arith, a, late, r); sendings = omega (arith, b, late, r); sent = omega (arith, d, late, r); handed = omega (arith, f, late, r) }
+  pub event_bounded : e.0 < 2 ^ 29
+  event_bounded = each_slice_get (λ (x : ℕ × Event). x.0 < 2 ^ 29) s.events i e served.suited.bounded at
 
-  pub own_client : v.client.client ≡ c
-  own_client = ap (λ (w : View). w.client.client) after.stands.view
+  pub event_fair : IsFair e.1
+  event_fair = each_slice_get (λ (x : ℕ × Event). IsFair x.1) s.events i e served.suited.fair at
 
-  pub after_next : (w : View) (then' : Text) → SendsOne (poll v.client 0) → w ≡ event_view e.0 v e.1 → then' ≡ now' ++ event_text e.0 (event_line v e.1) → After config c events (i + 1) w old then'
-  after_next w then' one went put =
-      let a : Account = account config after.done in
-      let st : Stands config c v a e.0 = stands_later config c v a after.line e.0 rising.0 after.stands in
-      let r = event_refines config c after.done e.0 v e.1 built.0 one st in
-      let same : account config (after.done ++ e ∷ []) ≡ next_account keep_all config a e = account_push config nothing_yet after.done e in
-      let more = lines_more a e.0 e.1 (effect keep_all config a e.0 e.1) (event_line v e.1) r.1 in
-      record {
-        done = after.done ++ e ∷ [];
-        rest = next.0;
-        split = after.split ∙ ap (λ es. after.done ++ es) next.1 ∙ sym (append_assoc after.done (e ∷ []) next.0);
-        place = length-append after.done (e ∷ []) ∙ ap (λ n. n + 1) after.place;
-        line = e.0 + 1;
-        late = let late = after.late in let r = rising.0 in omega (arith, late, r);
-        rising = rising.1;
-        built = built.1;
-        stands = subst (λ (b : Account). Stands config c w b (e.0 + 1)) (sym same) (subst (λ (u : View). Stands config c u (next_account keep_all config a e) (e.0 + 1)) (sym went) r.0);
-        few = subst (IsFew (i + 1)) (sym went) (few_next i e.0 v e.1 one after.few);
-        printed = put ∙ ap (λ text. text ++ event_text e.0 (event_line v e.1)) after.printed ∙ append_assoc old (flat_map line_text a.lines) (event_text e.0 (event_line v e.1))
-            ∙ ap (λ text. old ++ text) (sym more ∙ ap (λ (b : Account). flat_map line_text b.lines) (sym same));
-      }
+  on : StandsOn s.config after.done e.0 e.1 (step w.world e.0 e.1)
+  on =
+      let good : IsGood s.config (after.done ++ e ∷ []) = good_front s.config (after.done ++ e ∷ []) next.0 (subst (IsGood s.config) split served.good) in
+      let place = after.place in let late = after.late in let later = event_later in let low = event_bounded in
+      worlds_follow s.config after.done e.0 e.1 w.world served.keeps good (omega (arith, place, late, later, low)) after.stands
 
--- ---- the beginning
-each_built : (c : ClientNo) (events : List (ℕ × Event)) → list_all (λ (e : ℕ × Event). is_built_event c e.1) events ≡ true → Each (λ (e : ℕ × Event). is_built_event c e.1 ≡ true) events
-each_built c [] all = tt
-each_built c (e ∷ events) all = step (is_built_event c e.1) refl all (each_built c events) where
-  step : (b : Bool) → is_built_event c e.1 ≡ b → (b && list_all (λ (e : ℕ × Event). is_built_event c e.1) events) ≡ true
-      → (list_all (λ (e : ℕ × Event). is_built_event c e.1) events ≡ true → Each (λ (e : ℕ × Event). is_built_event c e.1 ≡ true) events)
-      → Each (λ (e : ℕ × Event). is_built_event c e.1 ≡ true) (e ∷ events)
-  step true is all more = (is, more all)
-  step false is all more = grind arith
+  pub after_next : (v : Running) (left : Text) (now : Option (List ℕ)) → v.world ≡ (step w.world e.0 e.1).world → v.line ≡ e.0 → v.spent ≡ false
+      → Gathered (held ++ event_text w.world e.0 e.1) left mid now → After s (i + 1) v left before now
+  after_next v left now is line unspent gathered = record {
+    done = after.done ++ e ∷ [];
+    rest = next.0;
+    split = split;
+    place = length-append after.done (e ∷ []) ∙ ap (λ n. n + 1) after.place;
+    late = let late = after.late in let later = event_later in omega (arith, line, late, later);
+    rising = subst (λ n. IsRisingFrom (n + 1) next.0) (sym line) rising.1;
+    stands = subst (Stands s.config (account_of_latest s.config (after.done ++ e ∷ []))) (sym is) on.stands;
+    line = line ∙ sym (last_of after.done e);
+    unspent = unspent;
+    gathered = subst (λ (t : Text). Gathered t left before now) (sym (text_next s after.done e.0 e.1 w.world on))
+        (gathered_on (text_of_events s after.done) held (event_text w.world e.0 e.1) before mid now after.gathered left gathered);
+  }
 
--- a built schedule has one client, and each of its events is built
-pub record BuiltFor (s : Schedule) : Type 0 where
-  pub client : ClientNo × ℕ
-  pub only : s.config.clients ≡ client ∷ []
-  pub events : Each (λ (e : ℕ × Event). is_built_event client.0 e.1 ≡ true) s.events
+  pub front_next : (now : Option (List ℕ)) → WroteFront (held ++ event_text w.world e.0 e.1) mid now → WroteFront (transcript s) before now
+  front_next now front =
+      let more = text_begins s (after.done ++ e ∷ []) next.0 served split in
+      subst (λ (t : Text). WroteFront t before now) (sym more.1)
+      (front_wider (text_of_events s (after.done ++ e ∷ [])) more.0 before now (subst (λ (t : Text). WroteFront t before now) (sym (text_next s after.done e.0 e.1 w.world on))
+      (front_on (text_of_events s after.done) held (event_text w.world e.0 e.1) before mid now after.gathered front)))
 
-pub built_for : (s : Schedule) → is_built_schedule s ≡ true → BuiltFor s
-built_for s built = step s.config.clients refl built where
-  step : (clients : List (ClientNo × ℕ)) → s.config.clients ≡ clients → is_built_with clients s ≡ true → BuiltFor s
-  step [] is built = grind arith
-  step (x ∷ y ∷ rest) is built = grind arith
-  step (x ∷ []) is built = record { client = x; only = is; events = each_built x.0 s.events (second (length s.config.node.offloads == 0) _ built) } where
-    second : (a b : Bool) → (a && b) ≡ true → b ≡ true
-    second true b both = both
-    second false b both = grind arith
-
-same_self : (c : ClientNo) → same_client c c ≡ true
-same_self c = grind (arith, nat_tests)
-
--- the engine before the first event stands for nothing yet
-start_stands : (config : Config) (c : ClientNo) (pid : ℕ) → config.clients ≡ (c, pid) ∷ [] → Stands config c (opening_view config.node.retry (new_client c pid) (opening config.node)) nothing_yet 1
-start_stands config c pid only = record {
-  view = ap (λ p. opening_view config.node.retry (new_client c p) (opening config.node)) (sym own);
-  gone = [];
-  frames = refl;
-  taken = refl;
-  still = tt;
-  earlier = tt;
-  loads = tt;
+-- ---- the beginning and the end
+pub after_none : (s : Schedule) (w : Running) (held : Text) (before : Option (List ℕ)) → IsServed s → w ≡ opened s.config → held ≡ s.header → After s 0 w held before before
+unfolding text_of_events
+after_none s w held before served first is = record {
+  done = [];
+  rest = s.events;
+  split = refl;
+  place = refl;
+  late = omega arith;
+  rising = subst (λ (x : Running). IsRisingFrom (x.line + 1) s.events) (sym first) served.good.rising;
+  stands = subst (λ (x : Running). Stands s.config nothing_yet x.world) (sym first) (record { moment = refl; node = node_opens; clients = refl; frames = refl; handed_out = refl; notes = tt; history = refl });
+  line = ap (λ (x : Running). x.line) first;
+  unspent = ap (λ (x : Running). x.spent) first;
+  gathered = record { gone = []; split = append-nil s.header ∙ sym is; written = added_none before };
 } where
-  own : pid_of config c ≡ pid
-  own = rw (only, same_self c) refl
+  node_opens : opening_node s.config.node ≡ node_at s.config nothing_yet
+  node_opens = ap (λ (entries : List Entry). record { flat = opening s.config.node; records = map (record_at nothing_yet) entries; retry = s.config.node.retry }) (sym (drop-nil (0 - s.config.node.retry)))
 
-pub after_none : (s : Schedule) (c : ClientNo) (pid : ℕ) (v : View) (flat : FlatState) (text : Text) → is_built_schedule s ≡ true → IsRisingFrom 1 s.events → s.config.clients ≡ (c, pid) ∷ []
-    → flat ≡ opening s.config.node → v ≡ opening_view s.config.node.retry (new_client c pid) flat → After s.config c s.events 0 v text text
-after_none s c pid v flat text built rising only opened is =
-    let for = built_for s built in
-    let same : v ≡ opening_view s.config.node.retry (new_client c pid) (opening s.config.node) = is ∙ ap (opening_view s.config.node.retry (new_client c pid)) opened in
-    record {
-      done = [];
-      rest = s.events;
-      split = refl;
-      place = refl;
-      line = 1;
-      late = omega arith;
-      rising = rising;
-      built = subst (λ (d : ClientNo). Each (λ (e : ℕ × Event). is_built_event d e.1 ≡ true) s.events) (first_client for.client c pid (sym for.only ∙ only)) for.events;
-      stands = subst (λ (u : View). Stands s.config c u nothing_yet 1) (sym same) (start_stands s.config c pid only);
-      few = subst (IsFew 0) (sym same) (record { issued = omega arith; sendings = omega arith; sent = omega arith; handed = omega arith });
-      printed = sym (append-nil text);
-    } where
-      first_client : (x : ClientNo × ℕ) (c : ClientNo) (pid : ℕ) → x ∷ [] ≡ (c, pid) ∷ [] → x.0 ≡ c
-      first_client x c pid is = let same : x ≡ (c, pid) = cc in ap (λ y. y.0) same
-
--- the same, with the client read from a list
-pub after_first : (s : Schedule) (clients : List (ClientNo × ℕ)) (d f : ClientNo × ℕ) (v : View) (flat : FlatState) (text : Text) → is_built_schedule s ≡ true → IsRisingFrom 1 s.events → clients ≡ s.config.clients
-    → flat ≡ opening s.config.node → v ≡ opening_view s.config.node.retry (new_client (get_or clients 0 d).0 (get_or clients 0 f).1) flat → After s.config (get_or clients 0 d).0 s.events 0 v text text
-after_first s clients d f v flat text built rising same opened is =
-    let for = built_for s built in
-    let first : get_or clients 0 d ≡ for.client = ap (λ (cs : List (ClientNo × ℕ)). get_or cs 0 d) (same ∙ for.only) in
-    let again : get_or clients 0 f ≡ for.client = ap (λ (cs : List (ClientNo × ℕ)). get_or cs 0 f) (same ∙ for.only) in
-    let began : v ≡ opening_view s.config.node.retry (new_client for.client.0 for.client.1) flat
-    = is ∙ (λ i. opening_view s.config.node.retry (new_client (first i).0 (again i).1) flat) in
-    subst (λ (x : ClientNo × ℕ). After s.config x.0 s.events 0 v text text) (sym first) (after_none s for.client.0 for.client.1 v flat text built rising for.only opened began)
-
-pub some_client : (s : Schedule) (clients : List (ClientNo × ℕ)) → is_built_schedule s ≡ true → clients ≡ s.config.clients → 0 < length clients
-some_client s clients built same = let n : length clients ≡ 1 = ap length (same ∙ (built_for s built).only) in omega (arith, n)
-
--- ---- the end
 all_done : (done rest : List (ℕ × Event)) → length done ≡ length (done ++ rest) → done ++ rest ≡ done
 all_done done [] long = append-nil done
 all_done done (e ∷ rest) long = absurd (let n : length (done ++ e ∷ rest) ≡ length done + length (e ∷ rest) = length-append done (e ∷ rest) in omega (arith, n, long))
 
-pub whole_transcript : (s : Schedule) (c : ClientNo) (v : View) (header lines all : Text)
-    → header ≡ s.header → After s.config c s.events (length s.events) v header lines
-    → all ≡ (lines ++ flat_map entry_text v.history) ++ line_of (codes "end" ∷ decimal (length v.history) ∷ []) → all ≡ transcript s
-whole_transcript s c v header lines all is after printed =
-    let done : s.events ≡ after.done = after.split ∙ all_done after.done after.rest (after.place ∙ ap length after.split) in
-    let a : Account = account s.config after.done in
-    let entries : v.history ≡ a.history = ap (λ (w : View). w.history) after.stands.view in
-    printed ∙ ap (λ (h : List Entry). (lines ++ flat_map entry_text h) ++ line_of (codes "end" ∷ decimal (length h) ∷ [])) entries
-    ∙ ap (λ (text : Text). (text ++ flat_map entry_text a.history) ++ line_of (codes "end" ∷ decimal (length a.history) ∷ [])) (after.printed ∙ ap (λ text. text ++ flat_map line_text a.lines) is)
-    ∙ ap (λ text. text ++ line_of (codes "end" ∷ decimal (length a.history) ∷ [])) (append_assoc s.header (flat_map line_text a.lines) (flat_map entry_text a.history))
-    ∙ append_assoc s.header (flat_map line_text a.lines ++ flat_map entry_text a.history) (line_of (codes "end" ∷ decimal (length a.history) ∷ []))
-    ∙ ap (λ (es : List (ℕ × Event)). s.header ++ account_text (account s.config es)) (sym done)
+module _ (s : Schedule) (served : IsServed s) (w : Running) (held : Text) (before mid : Option (List ℕ)) (after : After s (length s.events) w held before mid) where
+  done_is : s.events ≡ after.done
+  done_is = after.split ∙ all_done after.done after.rest (after.place ∙ ap length after.split)
 
--- counts below the number of a line are below 2 ^ 32 - 1
-pub few_small : (v : View) (n : ℕ) → n < 2 ^ 32 → IsFew (n - 1) v → IsFew (2 ^ 32 - 2) v
-few_small v n small few =
-    let a = few.issued in let b = few.sendings in let d = few.sent in let f = few.handed in
-    record { issued = omega (arith, a, small); sendings = omega (arith, b, small); sent = omega (arith, d, small); handed = omega (arith, f, small) }
+  pub behind_the_last : StandsBehind s w
+  behind_the_last = record {
+    stands = subst (λ es. Stands s.config (account_of_latest s.config es) w.world) (sym done_is) after.stands;
+    line = after.line ∙ ap last_line (sym done_is);
+    unspent = after.unspent;
+  }
+
+  -- the text of all events and the history are the transcript
+  whole : text_of_events s after.done ++ history_text w.world.history ≡ transcript s
+  unfolding text_of_events
+  whole =
+      let a : Account = account_of_latest s.config after.done in
+      append_assoc s.header (flat_map line_text a.lines) (history_text w.world.history)
+      ∙ ap (λ (h : List Entry). s.header ++ (flat_map line_text a.lines ++ history_text h)) after.stands.history
+      ∙ ap (λ (t : Text). s.header ++ t) (sym (account_text_is a))
+      ∙ ap (λ es. s.header ++ account_text (account_of_latest s.config es)) (sym done_is)
+      ∙ sym (transcript_by_latest s served)
+
+  pub all_written : (now : Option (List ℕ)) → Added (held ++ history_text w.world.history) mid now → Added (transcript s) before now
+  all_written now added = subst (λ (t : Text). Added t before now) whole (gathered_all (text_of_events s after.done) held (history_text w.world.history) before mid now after.gathered added)
+
+  pub front_written : (now : Option (List ℕ)) → WroteFront (held ++ history_text w.world.history) mid now → WroteFront (transcript s) before now
+  front_written now front = subst (λ (t : Text). WroteFront t before now) whole (front_on (text_of_events s after.done) held (history_text w.world.history) before mid now after.gathered front)

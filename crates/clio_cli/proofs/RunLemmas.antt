@@ -8,13 +8,13 @@ use Rattle.cl_types.specs.declared.schedule.Schedule.{Schedule}
 use Rattle.flat_model.specs.Commands.{command_in}
 use Rattle.flat_model.specs.Text.{Text}
 use Rattle.flat_model.specs.Texts.{transcript}
-use Rattle.clio_cli.specs.Run.{Complete, Ends, EndsWith, Exactly, ExactlyOf, FaultsAreCounted, Gave, IsInput, NoFault, Outside, Wants, WantsBy}
+use Rattle.clio_cli.specs.Run.{Complete, Ends, EndsWith, Exactly, ExactlyOf, FaultsAreCounted, Gave, NoFault, Outside, Wants, WantsBy}
 use Rattle.clio_cli.specs.Status.{number_of}
 use Rattle.clio_cli.specs.Verdict.{Verdict, HasBadNode, IsRefused, IsReplayable, IsTooLong, verdict}
 use Rattle.clio_cli.specs.Words.{is_built_command}
 use Rattle.clio_cli.specs.declared.status.Status.{Status}
 use Rattle.clio_cli.specs.declared.status.Status.TheVariants as status
-use Rattle.clio_cli.proofs.VerdictLemmas.{IsFinal, closed_status, differs, is_closed, is_refused, is_replayed, is_too_long, long_verdict, no_words, refused_status, replayed, too_long_status, verdict_final}
+use Rattle.clio_cli.proofs.VerdictLemmas.{IsFinal, closed_status, differs, is_closed, is_refused, is_too_long, long_verdict, no_words, refused_status, replayed, too_long_status}
 
 -- ---- numbers of statuses
 abbrev status_at : ℕ → Status
@@ -38,7 +38,7 @@ round status.NoMemory = refl
 round status.TooLong = refl
 round status.BadNode = refl
 
-one_status : (st other : Status) → number_of st ≡ number_of other → st ≡ other
+pub one_status : (st other : Status) → number_of st ≡ number_of other → st ≡ other
 one_status st other same = sym (round st) ∙ ap status_at same ∙ round other
 
 -- ---- how the program ends
@@ -96,10 +96,6 @@ module _ (words : List Text) (before after : Outside) where
     write st same end = let fault : Ends words before after status.WriteFault = subst (Ends words before after) same end in fault.0
 
 -- ---- what is wanted
-pub wanted_final : (built : Bool) (before after : Option (List ℕ)) (v : Verdict) → WantsBy built before after v → IsFinal v.status
-wanted_final false before after v w = subst (λ (u : Verdict). IsFinal u.status) (sym w.1) tt
-wanted_final true before after v w = subst (λ (u : Verdict). IsFinal u.status) (sym w.2) (verdict_final w.0)
-
 -- of a source that tells, the verdict is the one on its bytes
 gave_verdict : (given bytes : List ℕ) (after : Option (List ℕ)) → Gave given (Some bytes) after → verdict given ≡ verdict bytes
 gave_verdict given bytes after (inl input) = ap verdict input.whole
@@ -194,35 +190,3 @@ module _ (words : List Text) (after : Outside) (number read_faults write_faults 
   pub completely : (left : Option (List ℕ)) → EndsWith words (from left) after number → Complete words (from left) after number
   completely None end = tt
   completely (Some bytes) end = complete_told bytes end
-
-  -- success
-  pub record Succeeded (left : Option (List ℕ)) : Type 0 where
-    pub bytes : List ℕ
-    pub input : IsInput bytes left after.left
-    pub schedule : Schedule
-    pub replayable : IsReplayable bytes schedule
-    pub printed : Added (transcript schedule) written after.written
-
-  whole_input : (bytes : List ℕ) (left : Option (List ℕ)) → (verdict bytes).status ≡ status.Ok → Gave bytes left after.left → IsInput bytes left after.left
-  whole_input bytes left is (inl input) = input
-  whole_input bytes left is (inr many) =
-      let count : length bytes ≡ INPUT_LIMIT + 1 = many.count in
-      absurd (differs _ _ (sym (ap (λ (u : Verdict). u.status) (long_verdict bytes (omega (arith, count)))) ∙ is) (λ same. omega (arith, same)))
-
-  wrote_success : (b : Bool) (left : Option (List ℕ)) (v : Verdict) → WantsBy b left after.left v → v.status ≡ status.Ok → Added v.text written after.written → Succeeded left
-  wrote_success false left v w is added = absurd (differs _ _ (sym (ap (λ (u : Verdict). u.status) w.1) ∙ is) (λ same. omega (arith, same)))
-  wrote_success true left v w is added =
-      let ok : (verdict w.0).status ≡ status.Ok = sym (ap (λ (u : Verdict). u.status) w.2) ∙ is in
-      let good = is_replayed w.0 ok in
-      record {
-        bytes = w.0;
-        input = whole_input w.0 left ok w.1;
-        schedule = good.0;
-        replayable = good.1;
-        printed = subst (λ (u : Verdict). Added u.text written after.written) (w.2 ∙ replayed w.0 good.0 good.1) added;
-      }
-
-  pub succeeded : (left : Option (List ℕ)) → EndsWith words (from left) after number → number ≡ 0 → Succeeded left
-  succeeded left (st, is, end) same =
-      let wrote = ends_wrote words (from left) after status.Ok tt (subst (Ends words (from left) after) (one_status st status.Ok (sym is ∙ same)) end) in
-      wrote_success built left wrote.v wrote.wants wrote.status wrote.added

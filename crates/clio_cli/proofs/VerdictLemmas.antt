@@ -3,6 +3,7 @@ use Rattle.std.proofs.Common.{◌≡◌, ℕ, ◌+◌, ◌<◌, true, List, leng
 use Rattle.std.specs.Prelude.{Result, nat_lt}
 use Rattle.std.proofs.lemmas.Bool.Decides.{nat_tests}
 use Rattle.cl_types.specs.declared.schedule.Schedule.{Schedule}
+use Rattle.flat_model.specs.Grammar.{Fault, schedule_of}
 use Rattle.flat_model.specs.Opening.{open_fault}
 use Rattle.flat_model.specs.declared.open_fault.OpenFault.{OpenFault}
 use Rattle.schedule_text.specs.Reading.{too_long_of}
@@ -10,8 +11,7 @@ use Rattle.schedule_text.specs.declared.fault.ScheduleFault.{ScheduleFault}
 use Rattle.schedule_text.specs.declared.fault.ScheduleFault.TheVariants as long
 use Rattle.schedule_text.specs.declared.fault.TheConstants.{MOST_BYTES}
 use Rattle.clio_cli.specs.Status.{number_of}
-use Rattle.clio_cli.specs.Built.{Refused, built_schedule_of}
-use Rattle.clio_cli.specs.Verdict.{Verdict, HasBadNode, IsRefused, IsReplayable, IsTooLong, bytes_text, verdict, verdict_at_opening, verdict_by, verdict_on_schedule}
+use Rattle.clio_cli.specs.Verdict.{Verdict, HasBadNode, IsRefusal, IsRefused, IsReplayable, IsTooLong, bytes_text, verdict, verdict_at_opening, verdict_by, verdict_on_schedule}
 use Rattle.clio_cli.specs.declared.status.Status.{Status}
 use Rattle.clio_cli.specs.declared.status.Status.TheVariants as status
 
@@ -25,24 +25,24 @@ pub data Case (bytes : List ℕ) : Type 0 where
 
 pub case_of : (bytes : List ℕ) → Case bytes
 case_of bytes = by_length (too_long_of bytes) refl where
-  by_opening : too_long_of bytes ≡ None → (s : Schedule) → built_schedule_of bytes ≡ Ok s → (o : Option OpenFault) → open_fault s.config.node ≡ o → Case bytes
+  by_opening : too_long_of bytes ≡ None → (s : Schedule) → schedule_of bytes ≡ Ok s → (o : Option OpenFault) → open_fault s.config.node ≡ o → Case bytes
   by_opening short s spelled None opens = Replays s (record { short = short; spelled = spelled; opens = opens })
   by_opening short s spelled (Some fault) closed = Closed (record { short = short; schedule = s; spelled = spelled; fault = fault; closed = closed })
 
-  by_lines : too_long_of bytes ≡ None → (given : Result Schedule Refused) → built_schedule_of bytes ≡ given → Case bytes
-  by_lines short (Err refused) line = Refuses (record { short = short; refused = refused; line = line })
+  by_lines : too_long_of bytes ≡ None → (given : Result Schedule Fault) → schedule_of bytes ≡ given → Case bytes
+  by_lines short (Err fault) line = Refuses (record { short = short; fault = fault; line = line })
   by_lines short (Ok s) spelled = by_opening short s spelled (open_fault s.config.node) refl
 
   by_length : (o : Option ScheduleFault) → too_long_of bytes ≡ o → Case bytes
   by_length (Some fault) long = TooLong (fault, long)
-  by_length None short = by_lines short (built_schedule_of bytes) refl
+  by_length None short = by_lines short (schedule_of bytes) refl
 
 -- ---- the verdict in each case
-pub short_verdict : (bytes : List ℕ) → too_long_of bytes ≡ None → verdict bytes ≡ verdict_on_schedule (built_schedule_of bytes)
-short_verdict bytes short = ap (λ o. verdict_by o (built_schedule_of bytes)) short
+pub short_verdict : (bytes : List ℕ) → too_long_of bytes ≡ None → verdict bytes ≡ verdict_on_schedule (schedule_of bytes)
+short_verdict bytes short = ap (λ o. verdict_by o (schedule_of bytes)) short
 
 pub too_long_status : (bytes : List ℕ) → IsTooLong bytes → (verdict bytes).status ≡ status.TooLong
-too_long_status bytes long = ap (λ o. (verdict_by o (built_schedule_of bytes)).status) long.1
+too_long_status bytes long = ap (λ o. (verdict_by o (schedule_of bytes)).status) long.1
 
 pub refused_status : (bytes : List ℕ) → IsRefused bytes → (verdict bytes).status ≡ status.BadInput
 refused_status bytes refused = ap (λ (v : Verdict). v.status) (short_verdict bytes refused.short ∙ ap verdict_on_schedule refused.line)
@@ -71,6 +71,17 @@ verdict_final bytes = by (case_of bytes) where
   by (Refuses refused) = subst IsFinal (sym (refused_status bytes refused)) tt
   by (Closed bad) = subst IsFinal (sym (closed_status bytes bad)) tt
   by (Replays s good) = subst IsFinal (sym (replayed_status bytes s good)) tt
+
+-- a refusal is a status that a verdict may have
+pub refusal_final : (st : Status) → IsRefusal st → IsFinal st
+refusal_final status.BadWords refusal = tt
+refusal_final status.BadInput refusal = tt
+refusal_final status.TooLong refusal = tt
+refusal_final status.BadNode refusal = tt
+refusal_final status.Ok refusal = absurd refusal
+refusal_final status.ReadFault refusal = absurd refusal
+refusal_final status.WriteFault refusal = absurd refusal
+refusal_final status.NoMemory refusal = absurd refusal
 
 -- two statuses are told apart by their numbers
 pub differs : (st other : Status) → st ≡ other → (number_of st ≡ number_of other → ⊥) → ⊥
@@ -122,4 +133,4 @@ pub long_verdict : (bytes : List ℕ) → MOST_BYTES < length bytes → verdict 
 long_verdict bytes many =
     let more : nat_lt MOST_BYTES (length bytes) ≡ true = grind (arith, nat_tests) in
     let told : too_long_of bytes ≡ Some (long.TooLong true (MOST_BYTES + 1)) = rw more refl in
-    ap (λ o. verdict_by o (built_schedule_of bytes)) told
+    ap (λ o. verdict_by o (schedule_of bytes)) told

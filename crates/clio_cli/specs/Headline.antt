@@ -1,10 +1,11 @@
 -- What every history that is printed keeps.
-use Rattle.std.specs.Prelude.{◌≡◌, ℕ, List, Ok}
+use Rattle.std.specs.Prelude.{◌≡◌, ℕ, false, List, [], ◌∷◌, Ok}
 use Rattle.cl_outside.specs.Told.{Added}
 use Rattle.cl_types.specs.declared.config.Config.{Config}
+use Rattle.cl_types.specs.declared.schedule.Event.{Event}
 use Rattle.cl_types.specs.declared.schedule.Schedule.{Schedule}
 use Rattle.flat_model.specs.Account.{Account}
-use Rattle.flat_model.specs.Events.{account}
+use Rattle.flat_model.specs.Events.{account, account_of_latest}
 use Rattle.flat_model.specs.Grammar.{schedule_of}
 use Rattle.flat_model.specs.Properties.{Once, Ordered, Peeks, Stands}
 use Rattle.flat_model.specs.Run.{IsRun}
@@ -13,6 +14,10 @@ use Rattle.account_laws.specs.Times.{AreOfAge}
 use Rattle.clio_cli.specs.Run.{IsInput, Outside}
 use Rattle.clio_cli.specs.Status.{number_of}
 use Rattle.clio_cli.specs.Verdict.{IsReplayable}
+use Rattle.world.specs.Follows.{Stands as StandsFor}
+use Rattle.world.specs.Running.{Running}
+use Rattle.clio_cli.specs.declared.left.Left.{Left}
+use Rattle.clio_cli.specs.declared.left.Left.TheVariants as left
 use Rattle.clio_cli.specs.declared.status.Status.TheVariants as status
 
 -- what the account of a schedule keeps, of whose history the transcript has a line for each entry
@@ -34,16 +39,35 @@ pub record Headline (config : Config) (a : Account) : Type 0 where
 abbrev pub LawOfHeadline : Type 0
 LawOfHeadline = (bytes : List ℕ) (s : Schedule) → schedule_of bytes ≡ Ok s → Headline s.config (account s.config s.events)
 
--- the transcript of the schedule that the input spells was written, whole, and the account that it tells keeps it
-pub record WroteHeadline (before after : Outside) : Type 0 where
+-- the line of the last of these events, 0 where there is none
+abbrev pub last_line : List (ℕ × Event) → ℕ
+last_line [] = 0
+last_line (e ∷ []) = e.0
+last_line (e ∷ f ∷ events) = last_line (f ∷ events)
+
+-- the world stands for the schedule's events, behind the last of them, and goes on
+pub record StandsBehind (s : Schedule) (w : Running) : Type 0 where
+  pub stands : StandsFor s.config (account_of_latest s.config s.events) w.world
+  pub line : w.line ≡ last_line s.events
+  pub unspent : w.spent ≡ false
+
+-- the transcript of the schedule that the input spells was written, whole, the account that it tells keeps the headline, and
+-- the world that is left stands behind the schedule's events
+pub record Replays (before after : Outside) (kept : Left) : Type 0 where
   pub bytes : List ℕ
   pub input : IsInput bytes before.left after.left
   pub schedule : Schedule
-  pub spelled : schedule_of bytes ≡ Ok schedule
   pub replayable : IsReplayable bytes schedule
   pub printed : Added (transcript schedule) before.written after.written
   pub headline : Headline schedule.config (account schedule.config schedule.events)
+  pub world : Running
+  pub left : kept ≡ left.Replayed world
+  pub behind : StandsBehind schedule world
 
--- with the status of success such a transcript was written
-abbrev pub EndsInHeadline : Outside → Outside → ℕ → Type 0
-EndsInHeadline before after number = number ≡ number_of status.Ok → WroteHeadline before after
+-- with the status of success this came about
+abbrev pub EndsInHeadline : Outside → Outside → Left → ℕ → Type 0
+EndsInHeadline before after kept number = number ≡ number_of status.Ok → Replays before after kept
+
+-- with any other status nothing is left
+abbrev pub LeavesNothing : Left → ℕ → Type 0
+LeavesNothing kept number = (number ≡ number_of status.Ok → ⊥) → kept ≡ left.Nothing

@@ -1,32 +1,77 @@
 -- The loop over the events of a schedule. No public clause cites this module.
-use Rattle.std.specs.Prelude.{◌≡◌, ℕ, ◌+◌, ◌≤◌, true, List, [], ◌∷◌, ◌++◌, flat_map, length}
-use Rattle.std.specs.List.{AllByRecursion as Each}
+use Rattle.std.specs.Prelude.{◌≡◌, ℕ, ◌+◌, ◌≤◌, false, List, [], ◌∷◌, ◌++◌, Option, codes, decimal, flat_map, length}
+use Rattle.cl_outside.specs.Counts.{Rose}
+use Rattle.cl_outside.specs.Loops.{WroteFront}
+use Rattle.cl_outside.specs.Told.{Added}
 use Rattle.cl_types.specs.declared.config.Config.{Config}
-use Rattle.cl_types.specs.declared.line.EventLine.{EventLine}
-use Rattle.cl_types.specs.declared.numbers.ClientNo.{ClientNo}
+use Rattle.cl_types.specs.declared.line.Entry.{Entry}
 use Rattle.cl_types.specs.declared.schedule.Event.{Event}
-use Rattle.flat_model.specs.Events.{account}
-use Rattle.flat_model.specs.Text.{Text}
-use Rattle.flat_model.specs.Texts.{line_text, numbered_text}
+use Rattle.cl_types.specs.declared.schedule.Schedule.{Schedule}
+use Rattle.flat_model.specs.Events.{account_of_latest}
+use Rattle.flat_model.specs.Text.{Text, line_of}
+use Rattle.flat_model.specs.Texts.{entry_text, line_text, numbered_text, transcript}
+use Rattle.account_laws.specs.ReadSchedules.{IsGood}
 use Rattle.account_laws.specs.Schedules.{IsRisingFrom}
-use Rattle.clio_cli.specs.Engine.{IsFew, View, is_built_event}
-use Rattle.clio_cli.specs.Stands.{Stands}
+use Rattle.world.specs.Follows.{Stands, new_world}
+use Rattle.world.specs.Running.{Running}
+use Rattle.world.specs.Worlds.{Stepped, World, step}
+use Rattle.clio_cli.specs.Gathered.{Gathered}
+use Rattle.clio_cli.specs.Headline.{StandsBehind, last_line}
+use Rattle.clio_cli.specs.Suited.{IsSuited}
+use Rattle.clio_cli.specs.declared.left.Left.{Left}
+use Rattle.clio_cli.specs.declared.left.Left.TheVariants as left
+use Rattle.clio_cli.specs.declared.status.Status.{Status}
+use Rattle.clio_cli.specs.declared.status.Status.TheVariants as status
 
--- the text of an event's line
-abbrev pub event_text : ℕ → EventLine → Text
-event_text number line = numbered_text number (line.did ∷ []) line.ended
+-- the world of a configuration at its opening
+abbrev pub opened : Config → Running
+opened config = record { world = new_world config; line = 0; spent = false }
 
--- after i of the events their lines stand printed behind what stood, and the engine stands for their account
-pub record After (config : Config) (c : ClientNo) (events : List (ℕ × Event)) (i : ℕ) (v : View) (old now : Text) : Type 0 where
+-- the line that a step of a world tells
+abbrev pub step_text : ℕ → Stepped → Text
+step_text number s = numbered_text number (s.did ∷ []) s.ended
+
+-- the line of an event in this world
+unfoldable pub event_text : World → ℕ → Event → Text
+event_text w number event = step_text number (step w number event)
+
+-- the last line, with the number of entries
+abbrev pub end_text : ℕ → Text
+end_text count = line_of (codes "end" ∷ decimal count ∷ [])
+
+-- the lines of the entries, and the last line
+abbrev pub history_text : List Entry → Text
+history_text history = flat_map entry_text history ++ end_text (length history)
+
+-- the header, and the lines of these events
+unfoldable pub text_of_events : Schedule → List (ℕ × Event) → Text
+text_of_events s done = s.header ++ flat_map line_text (account_of_latest s.config done).lines
+
+-- the schedule was read, and its node keeps at least one reply
+pub record IsServed (s : Schedule) : Type 0 where
+  pub good : IsGood s.config s.events
+  pub suited : IsSuited s
+  pub keeps : 1 ≤ s.config.node.retry
+
+-- after i of the events: the world stands for them, and of their text all but what is held was written
+pub record After (s : Schedule) (i : ℕ) (w : Running) (held : Text) (before now : Option (List ℕ)) : Type 0 where
   pub done : List (ℕ × Event)
   pub rest : List (ℕ × Event)
-  pub split : events ≡ done ++ rest
+  pub split : s.events ≡ done ++ rest
   pub place : length done ≡ i
-  -- the next line is this one or a later one
-  pub line : ℕ
-  pub late : i + 1 ≤ line
-  pub rising : IsRisingFrom line rest
-  pub built : Each (λ (e : ℕ × Event). is_built_event c e.1 ≡ true) rest
-  pub stands : Stands config c v (account config done) line
-  pub few : IsFew i v
-  pub printed : now ≡ old ++ flat_map line_text (account config done).lines
+  pub late : i ≤ w.line
+  pub rising : IsRisingFrom (w.line + 1) rest
+  pub stands : Stands s.config (account_of_latest s.config done) w.world
+  pub line : w.line ≡ last_line done
+  pub unspent : w.spent ≡ false
+  pub gathered : Gathered (text_of_events s done) held before now
+
+-- how a replay ends, by what the sink was given and its count of faults: whole with the world that stands for the events, or
+-- cut, and then nothing is left
+abbrev pub Plays : Schedule → (before after : Option (List ℕ)) → (faults faults_after : ℕ) → Left → Status → Type 0
+Plays s before after faults faults_after kept status.Ok =
+    Added (transcript s) before after × (faults_after ≡ faults)
+    × (w : Running) × (kept ≡ left.Replayed w) × StandsBehind s w
+Plays s before after faults faults_after kept status.WriteFault = WroteFront (transcript s) before after × Rose faults faults_after × (kept ≡ left.Nothing)
+Plays s before after faults faults_after kept status.NoMemory = WroteFront (transcript s) before after × (faults_after ≡ faults) × (kept ≡ left.Nothing)
+Plays s before after faults faults_after kept other = ⊥

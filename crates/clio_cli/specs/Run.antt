@@ -53,6 +53,11 @@ abbrev pub Wants : List Text → Option (List ℕ) → Option (List ℕ) → Ver
 Wants words before after v = WantsBy (is_built_command (command_in words)) before after v
 
 -- ---- the end
+-- nothing was written, or a front of what was to be written
+abbrev pub WroteSome : List Text → Outside → Outside → Type 0
+WroteSome words before after =
+    (after.written ≡ before.written) ⊎ ((v : Verdict) × Wants words before.left after.left v × WroteFront v.text before.written after.written)
+
 -- with which status the program ends
 abbrev pub Ends : List Text → Outside → Outside → Status → Type 0
 -- the words are a command, a read failed, and nothing was written
@@ -63,9 +68,9 @@ Ends words before after status.ReadFault =
 Ends words before after status.WriteFault =
     Rose before.write_faults after.write_faults × (after.read_faults ≡ before.read_faults)
     × (v : Verdict) × Wants words before.left after.left v × WroteFront v.text before.written after.written
--- there was no memory, and nothing was written
+-- there was no memory, and a front of what was to be written was, or nothing
 Ends words before after status.NoMemory =
-    (after.written ≡ before.written) × (after.read_faults ≡ before.read_faults) × (after.write_faults ≡ before.write_faults)
+    (after.read_faults ≡ before.read_faults) × (after.write_faults ≡ before.write_faults) × WroteSome words before after
 -- the verdict has this status, and its text was written, whole
 Ends words before after status =
     (after.read_faults ≡ before.read_faults) × (after.write_faults ≡ before.write_faults)

@@ -3,7 +3,6 @@
 ghost use Rattle.std.specs.Prelude.{◌≡◌, IfOk};
 ghost use Rattle.std.specs.String.{string_bytes};
 ghost use Rattle.flat_model.specs.Texts.{fault_line, number_text, open_fault_line, what_text};
-ghost use Rattle.clio_cli.specs.Verdict.{not_built_line};
 
 use cl_types::config::Field;
 use cl_types::items::NoMemory;
@@ -45,13 +44,6 @@ pub fn line_fault(alloc: Global, number: u32, what: What) -> Result<String, NoMe
 {
     let what = what_name(what);
     Ok(format!(in alloc; "line {number}: {what}\n")?)
-}
-
-/// The line that tells a line of a kind that is not built.
-pub fn line_not_built(alloc: Global, number: u32) -> Result<String, NoMemory>
-    ensures { IfOk result (λ text. string_bytes text ≡ not_built_line number) }
-{
-    Ok(format!(in alloc; "line {number}: not built\n")?)
 }
 
 fn number_name(field: Field) -> &'static str

@@ -1,90 +1,222 @@
-//! The transcript of a schedule of the built kinds.
+//! The transcript of a schedule, over a world at its opening, written as it is made.
 
-ghost use Rattle.std.specs.Prelude.{◌≡◌, ◌++◌, ◌-◌, ◌∷◌, [], IfOk, OnOk, IsTrue, codes, decimal, flat_map, length};
-ghost use Rattle.flat_model.specs.State.{opening};
-ghost use Rattle.flat_model.specs.Text.{line_of};
+ghost use Rattle.std.specs.Prelude.{◌≡◌, ◌++◌, ◌∷◌, ◌^◌, ◌<◌, [], false, OnErr, OnOk, codes, decimal, flat_map, length};
+ghost use Rattle.cl_outside.specs.Loops.{WroteFront};
+ghost use Rattle.cl_outside.specs.Told.{Added};
 ghost use Rattle.flat_model.specs.Texts.{entry_text, transcript};
-ghost use Rattle.account_laws.specs.Schedules.{IsRisingFrom};
-ghost use Rattle.clio_cli.specs.Built.{is_built_schedule};
-ghost use Rattle.clio_cli.specs.Engine.{IsFew, event_line, event_view, is_built_event, view_of};
-ghost use Rattle.clio_cli.specs.Replay.{After, event_text};
+ghost use Rattle.world.specs.Running.{IsFair};
+ghost use Rattle.world.specs.Worlds.{step};
+ghost use Rattle.clio_cli.specs.Gathered.{CountsCut, Gathered};
+ghost use Rattle.clio_cli.specs.Headline.{StandsBehind};
+ghost use Rattle.clio_cli.specs.Replay.{After, IsServed, Plays, end_text, event_text, history_text, opened};
 
-use crate::engine::Engine;
-use crate::history::Made;
+use crate::gather::{Cut, let_go, pass_on};
+use crate::left::Left;
+use crate::status::Status;
+use cl_outside::Sink;
 use cl_types::items::{Bytes, NoMemory};
-use cl_types::numbers::ClientNo;
+use cl_types::line::Entry;
 use cl_types::schedule::{Event, Schedule};
-use flat_model::flat::Flat;
 use std::alloc::Global;
 use transcript_text::{print_entry, print_line};
+use world::World;
 
 // Makes an event happen and prints its line.
-#[tactic(auto, using(crate::proofs::EngineLemmas::good_status))]
-fn print_event(
+#[tactic(auto, using(crate::proofs::StepLemmas::good_step))]
+fn happen(
     alloc: Global,
-    engine: &mut Engine,
+    world: &mut World,
     number: u32,
     event: &Event,
-    to: &mut Bytes,
+    held: &mut Bytes,
 ) -> Result<(), NoMemory>
-    requires built { IsTrue (is_built_event engine.old.client.client event.now) }
-    requires few { IsFew (number - 1) (view_of engine.old) }
-    ensures printed { OnOk result (to.new ≡ to.old ++ event_text number (event_line (view_of engine.old) event.now)) }
-    ensures view { OnOk result (view_of engine.new ≡ event_view number (view_of engine.old) event.now) }
+    requires later { world.old.line < number }
+    requires bounded { number < 2 ^ 29 }
+    requires fair { IsFair event.now }
+    ensures printed { OnOk result
+        (held.new ≡ held.old ++ event_text world.old.world number event.now) }
+    ensures world { OnOk result
+        (world.new.world ≡ (step world.old.world number event.now).world) }
+    ensures line { OnOk result (world.new.line ≡ number) }
+    ensures unspent { OnOk result (world.new.spent ≡ false) }
 {
-    let line = engine.step(alloc, number, event)?;
-    print_line(number, &line, to)
+    let told = world.event(alloc, number, event)?;
+    print_line(number, &told, held)
 }
 
-// Makes the events happen and prints their lines.
-fn print_events(
+// Makes an event happen, and hands its line on.
+fn print_event<K: Sink>(
+    alloc: Global,
+    world: &mut World,
+    number: u32,
+    event: &Event,
+    held: &mut Bytes,
+    sink: &mut K,
+) -> Result<(), Cut>
+    requires later { world.old.line < number }
+    requires bounded { number < 2 ^ 29 }
+    requires fair { IsFair event.now }
+    ensures printed { OnOk result (Gathered
+        (held.old ++ event_text world.old.world number event.now) held.new
+        (K.written sink.old) (K.written sink.new)) }
+    ensures world { OnOk result
+        (world.new.world ≡ (step world.old.world number event.now).world) }
+    ensures line { OnOk result (world.new.line ≡ number) }
+    ensures unspent { OnOk result (world.new.spent ≡ false) }
+    ensures front { OnErr result (WroteFront
+        (held.old ++ event_text world.old.world number event.now)
+        (K.written sink.old) (K.written sink.new)) }
+    ensures counted { CountsCut (K.faults sink.old) (K.faults sink.new) result }
+{
+    happen(alloc, world, number, event, held)?;
+    pass_on(alloc, held, sink)
+}
+
+// Makes the events happen and hands their lines on.
+fn print_events<K: Sink>(
     alloc: Global,
     schedule: &Schedule,
-    client: ClientNo,
-    engine: &mut Engine,
-    to: &mut Bytes,
-) -> Result<(), NoMemory>
-    requires { After schedule.now.config client schedule.now.events 0 (view_of engine.old) to.old to.old }
-    ensures { OnOk result (After schedule.now.config client schedule.now.events (length schedule.now.events) (view_of engine.new) to.old to.new) }
+    world: &mut World,
+    held: &mut Bytes,
+    sink: &mut K,
+) -> Result<(), Cut>
+    requires served { IsServed schedule.now }
+    requires begun { After schedule.now 0 world.old held.old
+        (K.written sink.old) (K.written sink.old) }
+    ensures done { OnOk result (After schedule.now (length schedule.now.events)
+        world.new held.new (K.written sink.old) (K.written sink.new)) }
+    ensures front { OnErr result
+        (WroteFront (transcript schedule.now) (K.written sink.old) (K.written sink.new)) }
+    ensures counted { CountsCut (K.faults sink.old) (K.faults sink.new) result }
 {
     for (number, event) in schedule.events.as_slice() {
-        print_event(alloc, engine, *number, event, to)?;
+        print_event(alloc, world, *number, event, held, sink)?;
     }
     Ok(())
 }
 
-// Prints the lines of entries.
-fn print_entries(history: &[Made], to: &mut Bytes) -> Result<(), NoMemory>
-    ensures { OnOk result (to.new ≡ to.old ++ flat_map entry_text history.now) }
+// Prints the line of an entry, and hands it on.
+fn print_one<K: Sink>(
+    alloc: Global,
+    entry: &Entry,
+    held: &mut Bytes,
+    sink: &mut K,
+) -> Result<(), Cut>
+    ensures printed { OnOk result (Gathered (held.old ++ entry_text entry.now) held.new
+        (K.written sink.old) (K.written sink.new)) }
+    ensures front { OnErr result (WroteFront (held.old ++ entry_text entry.now)
+        (K.written sink.old) (K.written sink.new)) }
+    ensures counted { CountsCut (K.faults sink.old) (K.faults sink.new) result }
 {
-    for made in history {
-        print_entry(made.entry(), to)?;
+    print_entry(entry, held)?;
+    pass_on(alloc, held, sink)
+}
+
+// Prints the lines of entries, and hands them on.
+fn print_entries<K: Sink>(
+    alloc: Global,
+    history: &[Entry],
+    held: &mut Bytes,
+    sink: &mut K,
+) -> Result<(), Cut>
+    ensures printed { OnOk result (Gathered (held.old ++ flat_map entry_text history.now) held.new
+        (K.written sink.old) (K.written sink.new)) }
+    ensures front { OnErr result (WroteFront (held.old ++ flat_map entry_text history.now)
+        (K.written sink.old) (K.written sink.new)) }
+    ensures counted { CountsCut (K.faults sink.old) (K.faults sink.new) result }
+{
+    for entry in history {
+        print_one(alloc, entry, held, sink)?;
     }
     Ok(())
 }
 
-// Prints the last line.
-fn print_end(alloc: Global, count: usize, to: &mut Bytes) -> Result<(), NoMemory>
-    ensures { OnOk result (to.new ≡ to.old ++ line_of (codes "end" ∷ decimal count ∷ [])) }
+// Prints the last line, and writes all that is held.
+fn print_end<K: Sink>(
+    alloc: Global,
+    count: usize,
+    held: &mut Bytes,
+    sink: &mut K,
+) -> Result<(), Cut>
+    ensures printed { OnOk result (Added (held.old ++ end_text count)
+        (K.written sink.old) (K.written sink.new)) }
+    ensures front { OnErr result (WroteFront (held.old ++ end_text count)
+        (K.written sink.old) (K.written sink.new)) }
+    ensures counted { CountsCut (K.faults sink.old) (K.faults sink.new) result }
+{
+    append_end(alloc, count, held)?;
+    let_go(alloc, held, sink)
+}
+
+// Appends the last line.
+fn append_end(alloc: Global, count: usize, held: &mut Bytes) -> Result<(), NoMemory>
+    ensures { OnOk result (held.new ≡ held.old ++ end_text count) }
 {
     let text = format!(in alloc; "end {count}\n")?;
-    to.append(text.as_bytes())
+    held.append(text.as_bytes())
 }
 
-/// The transcript of a schedule, over the machine at its opening.
-pub fn transcript_of(alloc: Global, schedule: &Schedule, flat: Flat) -> Result<Bytes, NoMemory>
-    requires built { IsTrue (is_built_schedule schedule.now) }
-    requires rising { IsRisingFrom 1 schedule.now.events }
-    requires opened { flat ≡ opening schedule.now.config.node }
-    ensures { IfOk result (λ text. text ≡ transcript schedule.now) }
+// Prints the lines of the history and the last line, and writes all that is held.
+fn print_history<K: Sink>(
+    alloc: Global,
+    history: &[Entry],
+    held: &mut Bytes,
+    sink: &mut K,
+) -> Result<(), Cut>
+    ensures printed { OnOk result (Added (held.old ++ history_text history.now)
+        (K.written sink.old) (K.written sink.new)) }
+    ensures front { OnErr result (WroteFront (held.old ++ history_text history.now)
+        (K.written sink.old) (K.written sink.new)) }
+    ensures counted { CountsCut (K.faults sink.old) (K.faults sink.new) result }
 {
-    let mut text = Bytes::create(alloc);
-    text.append(schedule.header.as_slice())?;
-    let (client, pid) = schedule.config.clients.as_slice()[0];
-    let mut engine = Engine::create(alloc, schedule.config.node.retry, client, pid, flat);
-    print_events(alloc, schedule, client, &mut engine, &mut text)?;
-    let history = engine.history.as_slice();
-    print_entries(history, &mut text)?;
-    print_end(alloc, history.len(), &mut text)?;
-    Ok(text)
+    print_entries(alloc, history, held, sink)?;
+    print_end(alloc, history.len(), held, sink)
+}
+
+// Writes the transcript, and leaves the world behind the last event.
+fn write_transcript<K: Sink>(
+    alloc: Global,
+    schedule: &Schedule,
+    world: &mut World,
+    sink: &mut K,
+) -> Result<(), Cut>
+    requires served { IsServed schedule.now }
+    requires opened { world.old ≡ opened schedule.now.config }
+    ensures printed { OnOk result
+        (Added (transcript schedule.now) (K.written sink.old) (K.written sink.new)) }
+    ensures behind { OnOk result (StandsBehind schedule.now world.new) }
+    ensures front { OnErr result
+        (WroteFront (transcript schedule.now) (K.written sink.old) (K.written sink.new)) }
+    ensures counted { CountsCut (K.faults sink.old) (K.faults sink.new) result }
+{
+    let mut held = Bytes::create(alloc);
+    held.append(schedule.header.as_slice())?;
+    print_events(alloc, schedule, world, &mut held, sink)?;
+    print_history(alloc, world.history(), &mut held, sink)
+}
+
+/// Writes the transcript of a schedule over its world at the opening, and tells how that ended.
+/// With success the world is left as it stands behind the last event.
+pub fn play<K: Sink>(
+    alloc: Global,
+    schedule: &Schedule,
+    world: World,
+    sink: &mut K,
+    left: &mut Left,
+) -> Status
+    requires served { IsServed schedule.now }
+    requires opened { world ≡ opened schedule.now.config }
+    requires nothing { left.old ≡ Left.Nothing }
+    ensures { Plays schedule.now (K.written sink.old) (K.written sink.new)
+        (K.faults sink.old) (K.faults sink.new) left.new result }
+{
+    let mut world = world;
+    match write_transcript(alloc, schedule, &mut world, sink) {
+        Ok(()) => {
+            *left = Left::Replayed(world);
+            Status::Ok
+        }
+        Err(Cut::WriteFault) => Status::WriteFault,
+        Err(Cut::NoMemory) => Status::NoMemory,
+    }
 }

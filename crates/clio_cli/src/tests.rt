@@ -1,128 +1,159 @@
-//! The top call with ample memory: its transcript, the texts of its refusals, and calls of source and sink that fail.
+//! The top call with ample memory: a transcript and the world that is left, each other end with its
+//! text and status, and a transcript that is written in pieces.
 
-use crate::{Words, run};
+use crate::{Left, Words, run};
 use cl_outside::{MemorySink, MemorySource};
 use cl_types::items::NoMemory;
+use cl_types::numbers::ClientNo;
 use std::alloc::Global;
 use std::test::Fail;
 
+// The first worked schedule, and its transcript.
 const PATH: &[u8] =
-    b"node 16 8 4 4\nclient 1 1\ncall 1 alloc 1 rw\npoll 1\ndeliver next\ndeliver next\n";
+    b"node 16 8 4 4\nclient 1 1\ncall 1 alloc 1 rw\npoll 1\ndeliver next\ndeliver next\n\
+call 1 write 0x1000 616263\npoll 1\ndeliver next\ndeliver next\n\
+call 1 read 0x1000 4\npoll 1\ndeliver next\ndeliver next\npeek 1 0x1000 4\n";
 
-const TRANSCRIPT: &[u8] =
-    b"node 16 8 4 4\nclient 1 1\n3 issued 1.1\n4 sent 1 1.1.0 id 1\n5 executed 1 1.1.0 ok reply 2\n6 took 2 1.1.0; answer 1.1 done 0x1000\nh 5 0 1.1.0 alloc 1 rw = ok 0x1000\nend 1\n";
+const TRANSCRIPT: &[u8] = b"node 16 8 4 4\nclient 1 1\n3 issued 1.1\n4 sent 1 1.1.0 id 1\n\
+5 executed 1 1.1.0 ok reply 2\n6 took 2 1.1.0; answer 1.1 done 0x1000\n7 issued 1.2\n\
+8 sent 3 1.2.0 id 2\n9 executed 3 1.2.0 ok reply 4\n\
+10 took 4 1.2.0; answer 1.2 done\n11 issued 1.3\n12 sent 5 1.3.0 id 3\n\
+13 looked 5 1.3.0 ok reply 6\n14 took 6 1.3.0; answer 1.3 done 61626300\n\
+15 peek 61626300\nh 5 0 1.1.0 alloc 1 rw = ok 0x1000\n\
+h 9 0 1.2.0 write 0x1000 616263 = ok\nh 13 0 1.3.0 read 0x1000 4 = ok 61626300\n\
+end 3\n";
 
-fn words_of(alloc: Global, words: &[&str]) -> Result<Words, NoMemory> {
+// What a run came to.
+#[derive(Drop)]
+struct Ran {
+    status: u8,
+    written: Vec<u8>,
+    left: Left,
+}
+
+// Runs words on an input. These calls on the source and on the sink fail, by their numbers from 1.
+fn run_on(
+    alloc: Global,
+    words: &[&str],
+    input: &[u8],
+    reads: &[u64],
+    writes: &[u64],
+) -> Result<Ran, NoMemory> {
     let mut all = Words::create(alloc);
     for word in words {
         all.push(word)?;
     }
-    Ok(all)
+    let reads = Vec::from_slice(alloc, reads)?;
+    let mut source = MemorySource::create(Vec::from_slice(alloc, input)?, reads);
+    let mut sink = MemorySink::create(alloc, Vec::from_slice(alloc, writes)?);
+    let mut left = Left::Nothing;
+    let status = run(alloc, &all, &mut source, &mut sink, &mut left);
+    let written = Vec::from_slice(alloc, sink.bytes())?;
+    Ok(Ran {
+        status,
+        written,
+        left,
+    })
+}
+
+// What is shown of the world that is left: pages taken, replies kept, calls issued by client 1, and
+// entries of the history.
+fn shown(left: &Left) -> Option<(u32, u32, u32, usize)> {
+    let Left::Replayed(world) = left else {
+        return None;
+    };
+    let issued = world.client(ClientNo(1))?.issued();
+    let node = world.node();
+    Some((node.used(), node.retained(), issued, world.history().len()))
 }
 
 #[test]
-fn answers_each_command_line_with_its_text_and_status(rt: HostRuntime) -> Result<(), Fail> {
-    let alloc = rt.alloc();
-    let cases: [(&[&str], &[u8], u8); 5] = [
-        (&["replay"], TRANSCRIPT, 0),
-        (&[], b"bad words\n", 1),
-        (&[""], b"bad words\n", 1),
-        (&["replays"], b"bad words\n", 1),
-        (&["replay", "replay"], b"bad words\n", 1),
-    ];
-    for (given, want, status) in cases {
-        let words = words_of(alloc, given)?;
-        let mut source = MemorySource::create(Vec::from_slice(alloc, PATH)?, Vec::new(alloc));
-        let mut sink = MemorySink::create(alloc, Vec::new(alloc));
-        let ended = run(alloc, &words, &mut source, &mut sink);
-        assert_eq!(rt; ended, status, "{status}");
-        assert_eq!(rt; sink.bytes(), want, "{status}");
-    }
+fn the_first_path_is_printed_and_its_world_is_left(rt: HostRuntime) -> Result<(), Fail> {
+    let ran = run_on(rt.alloc(), &["replay"], PATH, &[], &[])?;
+    assert_eq!(rt; ran.status, 0);
+    assert_eq!(rt; ran.written.as_slice(), TRANSCRIPT);
+    assert_eq!(rt; shown(&ran.left), Some((1, 2, 3, 3)));
     Ok(())
 }
 
 #[test]
-fn tells_the_first_line_that_is_bad_or_not_built(rt: HostRuntime) -> Result<(), Fail> {
+fn each_end_has_its_text_and_status(rt: HostRuntime) -> Result<(), Fail> {
     let alloc = rt.alloc();
-    let words = words_of(alloc, &["replay"])?;
-    // The lines behind `node 16 8 4 4` and `client 1 1`, and the line that is told.
-    let cases: [(&str, &str); 16] = [
-        ("stat\n", "line 3: not built"),
-        (
-            "garbage node 434c\ngarbage node 00*1201\n",
-            "line 3: not built",
-        ),
-        ("tick x\nhold\n", "line 3: not built"),
-        ("hold\ntick x\n", "line 3: unknown word"),
-        ("call x free\n", "line 3: not built"),
-        ("call 1\n", "line 3: missing word"),
-        ("deliver\n", "line 3: not built"),
-        ("deliver next next\n", "line 3: extra word"),
-        ("tick  1\n", "line 3: bad spacing"),
-        ("#\n\nclient 2 1\npoll 3\n", "line 5: not built"),
-        ("client 1 2\n", "line 3: client repeated"),
-        ("call 1 read 0x1000 1025\npoll 3\n", "line 3: not built"),
-        ("call 1 write 0x1fff 6162\n", "line 3: not built"),
-        ("call 2 read 0x1000 1025\n", "line 3: unknown client"),
-        ("offload kv 2\n", "line 3: out of place"),
-        ("peek 1 0x1fff 2\nstat\n", "line 3: bad length"),
-    ];
-    for (lines, want) in cases {
-        let input = format!(in alloc; "node 16 8 4 4\nclient 1 1\n{lines}")?;
-        let told = format!(in alloc; "{want}\n")?;
-        let bytes = Vec::from_slice(alloc, input.as_bytes())?;
-        let mut source = MemorySource::create(bytes, Vec::new(alloc));
-        let mut sink = MemorySink::create(alloc, Vec::new(alloc));
-        assert_eq!(rt; run(alloc, &words, &mut source, &mut sink), 2, "{lines}");
-        assert_eq!(rt; sink.bytes(), told.as_bytes(), "{lines}");
-    }
-    Ok(())
-}
-
-#[test]
-fn judges_the_header_and_the_node(rt: HostRuntime) -> Result<(), Fail> {
-    let alloc = rt.alloc();
-    let words = words_of(alloc, &["replay"])?;
-    let cases: [(&[u8], &[u8], u8); 6] = [
-        (b"", b"line 1: node expected\n", 2),
-        (b"node 16 8 4 4\n", b"line 2: client expected\n", 2),
-        (b"stat\n", b"line 1: node expected\n", 2),
-        (b"node 16 8 4 4\nstat\n", b"line 2: client expected\n", 2),
-        (b"node 1 8 1 4\noffload kv 2\n", b"line 2: not built\n", 2),
-        (b"node 16 7 4 4\nclient 1 1\n", b"bad node: buckets 7\n", 10),
-    ];
-    for (input, want, status) in cases {
-        let mut source = MemorySource::create(Vec::from_slice(alloc, input)?, Vec::new(alloc));
-        let mut sink = MemorySink::create(alloc, Vec::new(alloc));
-        let ended = run(alloc, &words, &mut source, &mut sink);
-        assert_eq!(rt; ended, status, "{status}");
-        assert_eq!(rt; sink.bytes(), want, "{status}");
-    }
-    Ok(())
-}
-
-#[test]
-fn failed_calls_and_long_inputs_have_their_statuses(rt: HostRuntime) -> Result<(), Fail> {
-    let alloc = rt.alloc();
-    let words = words_of(alloc, &["replay"])?;
     let lines = vec![in alloc; b'\n'; 200_001]?;
     let bytes = vec![in alloc; b'#'; 16_777_217]?;
-    // The call on the source, or on the sink, that fails, by its number from 1. The second read is the one that would
-    // find the end.
-    let cases: [(&[u8], &[u64], &[u64], &[u8], u8); 5] = [
-        (PATH, &[1], &[], b"", 3),
-        (PATH, &[2], &[], b"", 3),
-        (PATH, &[], &[1], b"", 4),
-        (lines.as_slice(), &[], &[], b"too long: lines 200001\n", 8),
-        (bytes.as_slice(), &[], &[], b"too long: bytes 16777217\n", 8),
+    // The second read is the one that would find the end.
+    let cases: [(&[&str], &[u8], &[u64], &[u64], &[u8], u8); 13] = [
+        (&[], PATH, &[], &[], b"bad words\n", 1),
+        (&[""], PATH, &[], &[], b"bad words\n", 1),
+        (&["replay", "replay"], PATH, &[], &[], b"bad words\n", 1),
+        (&["replay"], b"", &[], &[], b"line 1: node expected\n", 2),
+        (
+            &["replay"],
+            b"node 16 7 4 4\nclient 1 1\nhold\n",
+            &[],
+            &[],
+            b"line 3: unknown word\n",
+            2,
+        ),
+        (&["replay"], PATH, &[1], &[], b"", 3),
+        (&["replay"], PATH, &[2], &[], b"", 3),
+        (&["replay"], PATH, &[], &[1], b"", 4),
+        (&["replays"], PATH, &[], &[1], b"", 4),
+        (
+            &["replay"],
+            lines.as_slice(),
+            &[],
+            &[],
+            b"too long: lines 200001\n",
+            8,
+        ),
+        (
+            &["replay"],
+            bytes.as_slice(),
+            &[],
+            &[],
+            b"too long: bytes 16777217\n",
+            8,
+        ),
+        (
+            &["replay"],
+            b"node 16 7 4 4\nclient 1 1\n",
+            &[],
+            &[],
+            b"bad node: buckets 7\n",
+            10,
+        ),
+        (
+            &["replay"],
+            b"node 1 8 1 4\noffload kv 2\nclient 1 1\n",
+            &[],
+            &[],
+            b"bad node: offload 0 pages 2\n",
+            10,
+        ),
     ];
-    for (input, reads, writes, want, status) in cases {
-        let reads = Vec::from_slice(alloc, reads)?;
-        let mut source = MemorySource::create(Vec::from_slice(alloc, input)?, reads);
-        let mut sink = MemorySink::create(alloc, Vec::from_slice(alloc, writes)?);
-        let ended = run(alloc, &words, &mut source, &mut sink);
-        assert_eq!(rt; ended, status, "{status}");
-        assert_eq!(rt; sink.bytes(), want, "{status}");
+    for (words, input, reads, writes, want, status) in cases {
+        let ran = run_on(alloc, words, input, reads, writes)?;
+        assert_eq!(rt; ran.status, status, "{status}");
+        assert_eq!(rt; ran.written.as_slice(), want, "{status}");
+        assert_eq!(rt; shown(&ran.left), None, "{status}");
     }
+    Ok(())
+}
+
+#[test]
+fn a_long_transcript_is_written_in_pieces(rt: HostRuntime) -> Result<(), Fail> {
+    let alloc = rt.alloc();
+    let mut input = Vec::from_slice(alloc, b"node 16 8 4 4\nclient 1 1\n")?;
+    for _ in 0..5000 {
+        input.extend_from_slice(b"stat\n")?;
+    }
+    let whole = run_on(alloc, &["replay"], &input, &[], &[])?;
+    let front = run_on(alloc, &["replay"], &input, &[], &[2])?;
+    assert_eq!(rt; whole.status, 0);
+    assert_eq!(rt; front.status, 4);
+    assert!(rt; front.written.len() >= 65_536);
+    assert!(rt; front.written.len() < whole.written.len());
+    assert!(rt; whole.written.starts_with(&front.written));
     Ok(())
 }

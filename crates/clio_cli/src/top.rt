@@ -1,15 +1,16 @@
 //! The top call.
 
-ghost use Rattle.std.specs.Prelude.{◌≡◌, IfOk, IsErrOf, IsTrue, true, false};
+ghost use Rattle.std.specs.Prelude.{◌≡◌, IfOk, IsErrOf, IsTrue, false};
 ghost use Rattle.flat_model.specs.Commands.{command_in};
-ghost use Rattle.clio_cli.specs.Output.{verdict_of};
-ghost use Rattle.clio_cli.specs.Run.{Complete, Ends, EndsWith, Exactly, ExactlyOf, FaultsAreCounted, Wants, WantsBy, outside};
-ghost use Rattle.clio_cli.specs.Headline.{EndsInHeadline};
-ghost use Rattle.clio_cli.specs.Stopping.{CountsHalt};
+ghost use Rattle.clio_cli.specs.Headline.{EndsInHeadline, LeavesNothing};
+ghost use Rattle.clio_cli.specs.Run.{Complete, Ends, EndsWith, Exactly, ExactlyOf, FaultsAreCounted, outside};
 ghost use Rattle.clio_cli.specs.Verdict.{HasBadNode, IsRefused, IsTooLong};
+ghost use Rattle.clio_cli.specs.Wanted.{Asks, AsksOf, CountsHalt, Keeps};
 ghost use Rattle.clio_cli.specs.Words.{is_built_command};
 
-use crate::judge::{Output, judge, output_of};
+use crate::judge::{Wanted, judge, output_of};
+use crate::left::Left;
+use crate::replay::play;
 use crate::status::Status;
 use crate::words::Words;
 use cl_outside::{Sink, Source, Stop, read_input, write_all};
@@ -34,51 +35,74 @@ impl From<NoMemory> for Halt {
     }
 }
 
-// What is to be written for the bytes of a source.
-fn replay<S: Source>(alloc: Global, source: &mut S) -> Result<Output, Halt>
-    ensures output { IfOk result (λ output. WantsBy true (S.left source.old) (S.left source.new) (verdict_of output)) }
+// What the bytes of a source ask for.
+fn asked<S: Source>(alloc: Global, source: &mut S) -> Result<Wanted, Halt>
+    ensures asked { IfOk result (AsksOf (S.left source.old) (S.left source.new)) }
     ensures counted { CountsHalt (S.faults source.old) (S.faults source.new) result }
 {
     match read_input(alloc, source) {
         Ok(bytes) => Ok(judge(alloc, &bytes)?),
         Err(Stop::ReadFault) => Err(Halt::ReadFault),
-        Err(Stop::TooLong) => Ok(output_of(alloc, b"too long: bytes 16777217\n", Status::TooLong)?),
+        Err(Stop::TooLong) => {
+            let text = b"too long: bytes 16777217\n";
+            Ok(Wanted::Told(output_of(alloc, text, Status::TooLong)?))
+        }
         Err(Stop::NoMemory) => Err(Halt::NoMemory),
         Err(Stop::WriteFault) => unreachable!(),
     }
 }
 
-// What is to be written for a command line.
-fn wanted<S: Source>(alloc: Global, words: &Words, source: &mut S) -> Result<Output, Halt>
-    ensures output { IfOk result (λ output. Wants words.now (S.left source.old) (S.left source.new) (verdict_of output)) }
+// What a command line asks for.
+fn wanted<S: Source>(alloc: Global, words: &Words, source: &mut S) -> Result<Wanted, Halt>
+    ensures asked { IfOk result (Asks words.now (S.left source.old) (S.left source.new)) }
     ensures counted { CountsHalt (S.faults source.old) (S.faults source.new) result }
-    ensures fault { IsErrOf result Halt.ReadFault → IsTrue (is_built_command (command_in words.now)) }
+    ensures fault { IsErrOf result Halt.ReadFault
+        → IsTrue (is_built_command (command_in words.now)) }
 {
     if !words.are_built() {
-        return Ok(output_of(alloc, b"bad words\n", Status::BadWords)?);
+        return Ok(Wanted::Told(output_of(alloc, b"bad words\n", Status::BadWords)?));
     }
-    replay(alloc, source)
+    asked(alloc, source)
 }
 
 // Serves a command line.
-fn serve<S: Source, K: Sink>(alloc: Global, words: &Words, source: &mut S, sink: &mut K) -> Status
-    ensures { Ends words.now
+fn serve<S: Source, K: Sink>(
+    alloc: Global,
+    words: &Words,
+    source: &mut S,
+    sink: &mut K,
+    left: &mut Left,
+) -> Status
+    requires nothing { left.old ≡ Left.Nothing }
+    ensures ends { Ends words.now
         (outside (S.left source.old) (S.faults source.old) (K.written sink.old) (K.faults sink.old))
         (outside (S.left source.new) (S.faults source.new) (K.written sink.new) (K.faults sink.new))
         result }
+    ensures keeps { Keeps
+        (outside (S.left source.old) (S.faults source.old) (K.written sink.old) (K.faults sink.old))
+        (outside (S.left source.new) (S.faults source.new) (K.written sink.new) (K.faults sink.new))
+        left.new result }
 {
     match wanted(alloc, words, source) {
-        Ok(output) => match write_all(sink, output.text.as_slice()) {
+        Ok(Wanted::Told(output)) => match write_all(sink, output.text.as_slice()) {
             Ok(()) => output.status,
             Err(_) => Status::WriteFault,
         },
+        Ok(Wanted::Opened(schedule, world)) => play(alloc, &schedule, world, sink, left),
         Err(Halt::ReadFault) => Status::ReadFault,
         Err(Halt::NoMemory) => Status::NoMemory,
     }
 }
 
-/// Serves a command line, and answers the status with which the program is to end.
-pub fn run<S: Source, K: Sink>(alloc: Global, words: &Words, source: &mut S, sink: &mut K) -> u8
+/// Serves a command line, and answers the status with which the program is to end. With success
+/// `left` is what the command worked with, and else `Nothing`; what stood in it before is dropped.
+pub fn run<S: Source, K: Sink>(
+    alloc: Global,
+    words: &Words,
+    source: &mut S,
+    sink: &mut K,
+    left: &mut Left,
+) -> u8
     ensures ends { EndsWith words.now
         (outside (S.left source.old) (S.faults source.old) (K.written sink.old) (K.faults sink.old))
         (outside (S.left source.new) (S.faults source.new) (K.written sink.new) (K.faults sink.new))
@@ -90,7 +114,8 @@ pub fn run<S: Source, K: Sink>(alloc: Global, words: &Words, source: &mut S, sin
     ensures headline { EndsInHeadline
         (outside (S.left source.old) (S.faults source.old) (K.written sink.old) (K.faults sink.old))
         (outside (S.left source.new) (S.faults source.new) (K.written sink.new) (K.faults sink.new))
-        result }
+        left.new result }
+    ensures left { LeavesNothing left.new result }
     ensures bad_words { Exactly
         (outside (S.left source.old) (S.faults source.old) (K.written sink.old) (K.faults sink.old))
         (outside (S.left source.new) (S.faults source.new) (K.written sink.new) (K.faults sink.new))
@@ -112,5 +137,6 @@ pub fn run<S: Source, K: Sink>(alloc: Global, words: &Words, source: &mut S, sin
         (outside (S.left source.new) (S.faults source.new) (K.written sink.new) (K.faults sink.new))
         result }
 {
-    serve(alloc, words, source, sink).number()
+    *left = Left::Nothing;
+    serve(alloc, words, source, sink, left).number()
 }

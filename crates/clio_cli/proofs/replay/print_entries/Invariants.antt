@@ -1,7 +1,10 @@
 use Rattle.std.proofs.Common.{◌≡◌, ◌++◌, take}
 use Rattle.std.specs.Prelude.{flat_map}
 use Rattle.flat_model.specs.Texts.{entry_text}
+use Rattle.clio_cli.specs.Gathered.{Gathered}
 use Rattle.clio_cli.proofs.replay.print_entries.Given as goal
 
-abbrev pub invariant-loop-made : goal.invariant-loop-made
-invariant-loop-made l = l.to ≡ l.fn.to ++ flat_map entry_text (take l.made-index l.history)
+abbrev pub invariant-loop-entry : goal.invariant-loop-entry
+invariant-loop-entry g l =
+    Gathered (l.fn.held ++ flat_map entry_text (take l.entry-index l.history)) l.held (g.K.Sink.written l.fn.sink) (g.K.Sink.written l.sink)
+    × (g.K.Sink.faults l.sink ≡ g.K.Sink.faults l.fn.sink)

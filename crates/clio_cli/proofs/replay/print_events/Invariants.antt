@@ -1,6 +1,8 @@
-use Rattle.clio_cli.specs.Engine.{view_of}
+use Rattle.std.proofs.Common.{◌≡◌}
 use Rattle.clio_cli.specs.Replay.{After}
 use Rattle.clio_cli.proofs.replay.print_events.Given as goal
 
 abbrev pub invariant-loop-number : goal.invariant-loop-number
-invariant-loop-number l = After l.schedule.config l.fn.client l.schedule.events l.number-index (view_of l.engine) l.fn.to l.to
+invariant-loop-number g l =
+    After l.schedule l.number-index l.world l.held (g.K.Sink.written l.fn.sink) (g.K.Sink.written l.sink)
+    × (g.K.Sink.faults l.sink ≡ g.K.Sink.faults l.fn.sink)

@@ -1,20 +1,26 @@
-use Rattle.std.proofs.Common.{List, ℕ, refl, subst}
-use Rattle.cl_outside.specs.Told.{Added}
-use Rattle.flat_model.specs.Commands.{command_in}
-use Rattle.clio_cli.specs.Output.{verdict_of}
-use Rattle.clio_cli.specs.Words.{is_built_command}
-use Rattle.clio_cli.proofs.RunLemmas.{wanted_final, wrote_ends}
+use Rattle.std.proofs.Common.{subst}
+use Rattle.clio_cli.specs.Run.{outside}
+use Rattle.clio_cli.specs.Wanted.{Asks}
+use Rattle.clio_cli.proofs.ServeLemmas.{plays_end, plays_keep, served_of}
 use Rattle.clio_cli.proofs.top.serve.Goals as goal
 
-pub returns-in-Ok-write_all : goal.returns-in-Ok-write_all
-returns-in-Ok-write_all g c =
-    let v = verdict_of c.in-Ok.output in
-    wrote_ends c.args.words.now _ _ v.status (wanted_final (is_built_command (command_in c.args.words.now)) _ _ v c.in-Ok.ensures.output)
-    (record {
-      reads = c.in-Ok.ensures.counted;
-      writes = c.in-Ok-write_all.ensures.counted;
-      v = v;
-      wants = c.in-Ok.ensures.output;
-      status = refl;
-      added = subst (λ (text : List ℕ). Added text (g.K.Sink.written c.args.sink.now) (g.K.Sink.written c.write_all.new.sink)) c.as_slice.ensures c.in-Ok-write_all.ensures.all;
-    })
+pub play-requires-clause-served : goal.play-requires-clause-served
+play-requires-clause-served g c =
+    let asked = subst (Asks c.args.words.now (g.S.Source.left c.args.source.now) (g.S.Source.left c.wanted.new.source)) c.in-Ok-Opened.field-0-is c.in-Ok-Opened.ensures.asked in
+    served_of asked.1.0 c.in-Ok-Opened.schedule asked.1.2
+
+pub returns-in-Ok-Opened-clause-ends : goal.returns-in-Ok-Opened-clause-ends
+returns-in-Ok-Opened-clause-ends g c =
+    let asked = subst (Asks c.args.words.now (g.S.Source.left c.args.source.now) (g.S.Source.left c.wanted.new.source)) c.in-Ok-Opened.field-0-is c.in-Ok-Opened.ensures.asked in
+    plays_end c.args.words.now
+    (outside (g.S.Source.left c.args.source.now) (g.S.Source.faults c.args.source.now) (g.K.Sink.written c.args.sink.now) (g.K.Sink.faults c.args.sink.now))
+    (outside (g.S.Source.left c.wanted.new.source) (g.S.Source.faults c.wanted.new.source) (g.K.Sink.written c.play.new.sink) (g.K.Sink.faults c.play.new.sink))
+    c.in-Ok-Opened.schedule c.in-Ok-Opened.world c.play.new.left asked c.in-Ok-Opened.ensures.counted c.play.result c.play.ensures
+
+pub returns-in-Ok-Opened-clause-keeps : goal.returns-in-Ok-Opened-clause-keeps
+returns-in-Ok-Opened-clause-keeps g c =
+    let asked = subst (Asks c.args.words.now (g.S.Source.left c.args.source.now) (g.S.Source.left c.wanted.new.source)) c.in-Ok-Opened.field-0-is c.in-Ok-Opened.ensures.asked in
+    plays_keep c.args.words.now
+    (outside (g.S.Source.left c.args.source.now) (g.S.Source.faults c.args.source.now) (g.K.Sink.written c.args.sink.now) (g.K.Sink.faults c.args.sink.now))
+    (outside (g.S.Source.left c.wanted.new.source) (g.S.Source.faults c.wanted.new.source) (g.K.Sink.written c.play.new.sink) (g.K.Sink.faults c.play.new.sink))
+    c.in-Ok-Opened.schedule c.in-Ok-Opened.world c.play.new.left asked c.in-Ok-Opened.ensures.counted c.play.result c.play.ensures

@@ -1,0 +1,13 @@
+use Rattle.std.proofs.Common.{◌++◌, ◌∙◌, List, ℕ, ap}
+use Rattle.std.proofs.lemmas.Result.{on_ok_weaker}
+use Rattle.clio_cli.proofs.ReplayLemmas.{told_good, told_text}
+use Rattle.clio_cli.proofs.replay.happen.Goals as goal
+
+pub print_line-requires : goal.print_line-requires
+print_line-requires c = told_good c.args.world.now.world c.event.new.self.world c.args.number c.args.event.now c.in_ok-told.told c.in_ok-told.ensures.step
+
+pub returns-clause-printed : goal.returns-clause-printed
+returns-clause-printed c =
+    on_ok_weaker c.print_line.result
+    (λ printed. printed ∙ ap (λ (text : List ℕ). c.args.held.now ++ text) (told_text c.args.world.now.world c.event.new.self.world c.args.number c.args.event.now c.in_ok-told.told c.in_ok-told.ensures.step))
+    c.print_line.ensures.printed

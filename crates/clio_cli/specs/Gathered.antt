@@ -1,0 +1,19 @@
+-- Text on its way to a sink: what was written, and what is held. No public clause cites this module.
+use Rattle.std.specs.Prelude.{◌≡◌, ℕ, ◌++◌, List, Option, Result, Ok, Err}
+use Rattle.cl_outside.specs.Counts.{Rose}
+use Rattle.cl_outside.specs.Told.{Added}
+use Rattle.flat_model.specs.Text.{Text}
+use Rattle.clio_cli.specs.declared.gather.Cut.{Cut}
+use Rattle.clio_cli.specs.declared.gather.Cut.TheVariants as cut
+
+-- of the text so far all but what is held was written
+pub record Gathered (text held : Text) (before now : Option (List ℕ)) : Type 0 where
+  pub gone : Text
+  pub split : text ≡ gone ++ held
+  pub written : Added gone before now
+
+-- the count of faults rose where a write failed, and else stands
+abbrev pub CountsCut : {A : Type 0} → ℕ → ℕ → Result A Cut → Type 0
+CountsCut before now (Ok value) = now ≡ before
+CountsCut before now (Err cut.WriteFault) = Rose before now
+CountsCut before now (Err cut.NoMemory) = now ≡ before

@@ -1,0 +1,11 @@
+//! What a command worked with.
+
+use world::World;
+
+/// What a command that ended with success leaves.
+#[derive(Drop)]
+pub enum Left {
+    Nothing,
+    /// The world of a schedule after its last event.
+    Replayed(World),
+}
