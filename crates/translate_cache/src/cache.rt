@@ -1,6 +1,6 @@
 //! `Cache`: the cache and its calls.
 
-ghost use Rattle.std.specs.Prelude.{◌≡◌, ◌≢◌, ◌≤◌, ◌⊎◌, [], None, Some, IsSome, IfOk, IfSome};
+ghost use Rattle.std.specs.Prelude.{◌≡◌, ◌≢◌, ◌≤◌, ◌⊎◌, [], None, Some, IsSome, IfOk, IfSome, is_some};
 ghost use Rattle.cl_types.specs.Places.{Place};
 
 use cl_types::items::NoMemory;
@@ -45,6 +45,13 @@ impl Cache {
         Ok(Cache {
             entries: LruCache::new(alloc, capacity)?,
         })
+    }
+
+    /// Whether the cache has an entry of a page. The order of use stays.
+    pub fn contains(&self, space: Space16, vpn: Vpn) -> bool
+        ensures { result ≡ is_some (entry_of self.now (space.0, vpn.0)) }
+    {
+        self.entries.contains(&(space.0, vpn.0))
     }
 
     /// The entry of a page, which is then the latest used. `None` comes exactly where the cache has
@@ -110,7 +117,9 @@ mod tests {
         cache.note(space, a, entry(1));
         cache.note(space, b, entry(2));
         assert_eq!(rt; cache.get(space, a), Some(entry(1)));
+        assert!(rt; cache.contains(space, b));
         cache.note(space, c, entry(3));
+        assert!(rt; !cache.contains(space, b));
         assert_eq!(rt; cache.get(space, b), None);
         assert_eq!(rt; cache.get(space, a), Some(entry(1)));
         assert_eq!(rt; cache.get(space, c), Some(entry(3)));
