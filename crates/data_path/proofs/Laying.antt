@@ -26,7 +26,7 @@ use Rattle.flat_model.specs.State.{places_of}
 use Rattle.range_alloc.proofs.Entries.{entry-with}
 use Rattle.translate_cache.specs.Cached.{Cached}
 use Rattle.data_path.specs.declared.store.PageStore.{PageStore}
-use Rattle.data_path.specs.Store.{held_places}
+use Rattle.data_path.specs.Store.{held_places, no_entries}
 use Rattle.data_path.specs.Laying.{Row, rows_of, spanned, rows_from, numbered, IsBehind, IsLaid}
 
 -- ---- numbers one after another
@@ -315,7 +315,7 @@ rows_all spaces new space n i rows all there is mapped =
     ∙ sym (rows-more 0 spaces n) ∙ ap (rows_from 0) (sym is)
 
 -- ---- no page is mapped
-module _ (table : PageMap) (pool : PoolPages) (arena : List (List ℕ)) (cache : Cached) (spaces : List ℕ) (buckets pages ring entries : ℕ) where
+module _ (table : PageMap) (pool : PoolPages) (arena : List (List ℕ)) (cache : Cached) (spaces : List ℕ) (buckets pages ring : ℕ) where
   pub record Made : Type 0 where
     pub table_is : table ≡ record { buckets = buckets; entries = [] }
     pub valid : IsValid table
@@ -323,7 +323,7 @@ module _ (table : PageMap) (pool : PoolPages) (arena : List (List ℕ)) (cache :
     pub parted : IsPartition pool
     pub ready : IsReady pool
     pub arena_is : arena ≡ replicate pages zero_page
-    pub cache_is : cache ≡ record { entries = []; capacity = entries }
+    pub cache_is : cache ≡ no_entries
 
   module _ (m : Made) where
     none : table.entries ≡ []
@@ -351,5 +351,5 @@ module _ (table : PageMap) (pool : PoolPages) (arena : List (List ℕ)) (cache :
       zero = AreZero-new pool m.parted arena (m.arena_is ∙ ap (λ (n : ℕ). replicate n zero_page) (sym counted));
       zeroed = λ frame below. absurd (omega (arith, below, ap length none));
       within = λ place there. absurd (let isnt : entry_of table place ≡ None = ap (find place_cmp place) none in let both = rw isnt at there in cc);
-      uncached = ap (λ (c : Cached). c.entries) m.cache_is;
+      uncached = m.cache_is;
     }

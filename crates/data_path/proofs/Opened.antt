@@ -27,7 +27,7 @@ use Rattle.flat_model.specs.Step.{is_among}
 use Rattle.range_alloc.specs.Ranges.{AreRanges, IsIn, frame_at, span_at}
 use Rattle.range_alloc.proofs.Among.{among-true, among-page, among-none, among-rest}
 use Rattle.range_alloc.proofs.Entries.{frame_in, span_in}
-use Rattle.translate_cache.specs.Cached.{is_place}
+use Rattle.translate_cache.specs.Cached.{Cached, is_place}
 use Rattle.translate_cache.specs.Cached.{entry_of as cached_entry}
 use Rattle.data_path.specs.declared.store.PageStore.{PageStore}
 use Rattle.data_path.specs.Store.{pages_in, spans_in, backed, empty_memory, held_places, flat_of, memory_of, IsFit, IsWhole}
@@ -376,7 +376,7 @@ module _ (s : PageStore) (laid : IsLaid s) (rows : rows_of s.table.entries ≡ r
     arena = laid.arena;
     sized = λ place frame is. ap length (laid.zeroed frame (below place frame is)) ∙ fresh_size;
     zero = laid.zero;
-    cached = λ place pte noted. absurd (let none : cached_entry s.cache place ≡ None = ap (lookup (is_place place)) laid.uncached in let both = sym none ∙ noted in cc);
+    cached = λ place pte noted. absurd (let none : cached_entry s.cache place ≡ None = ap (λ (c : Cached). lookup (is_place place) c.entries) laid.uncached in let both = sym none ∙ noted in cc);
   }
 
   pub whole_laid : IsWhole s

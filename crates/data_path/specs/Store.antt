@@ -13,6 +13,7 @@ use Rattle.translate_cache.specs.Cached.{entry_of as cached_entry}
 use Rattle.flat_model.specs.Objects.{Object}
 use Rattle.flat_model.specs.Rows.{keys}
 use Rattle.flat_model.specs.State.{FlatState, Page, places_of}
+use Rattle.data_path.specs.declared.create.TheConstants.{CACHED_ENTRIES}
 use Rattle.data_path.specs.declared.store.PageStore.{PageStore}
 
 -- ---- what a store means
@@ -55,6 +56,10 @@ flat_of objects memory = record {
 -- the memory of so many pages and buckets in which nothing is mapped
 abbrev pub empty_memory : ℕ → ℕ → FlatState
 empty_memory pages buckets = record { map = []; ranges = []; objects = []; held = []; pages = pages; buckets = buckets }
+
+-- the cache of a store at its opening: no entries, and room for so many
+abbrev pub no_entries : Cached
+no_entries = record { entries = []; capacity = CACHED_ENTRIES }
 
 -- ---- when the parts of a store fit
 -- how many of the entries have a frame

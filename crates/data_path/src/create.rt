@@ -32,7 +32,7 @@ use std::sync::ledger::{Blank, Ledger};
 use translate_cache::Cache;
 
 /// How many entries of the table the cache has room for.
-const CACHED_ENTRIES: u32 = 64;
+pub const CACHED_ENTRIES: u32 = 64;
 
 // Why a node of this configuration doesn't open, if it doesn't: the flat machine tells it at its own opening. That a
 // number is bad or an offload has no room is told whether there is memory or not.
@@ -54,7 +54,7 @@ fn span_of(before: u16, pages: u16) -> u16
 }
 
 impl PageStore {
-    ghost use Rattle.data_path.specs.Store.{empty_memory, flat_of, held_places, memory_of, IsWhole};
+    ghost use Rattle.data_path.specs.Store.{empty_memory, flat_of, held_places, memory_of, no_entries, IsWhole};
     ghost use Rattle.data_path.specs.Opened.{opened_memory};
     ghost use Rattle.data_path.specs.Laying.{rows_from, rows_of, IsBehind, IsLaid};
 
@@ -66,6 +66,7 @@ impl PageStore {
             (λ fault. result ≡ Err fault) }
         ensures spaces { IfOk result (λ store. store.spaces ≡ map offload_pages config.now.offloads) }
         ensures memory { IfOk result (λ store. memory_of store ≡ opened_memory config.now) }
+        ensures cache { IfOk result (λ store. store.cache ≡ no_entries) }
         ensures opened { IfOk result (λ store. flat_of (map empty_object config.now.offloads) (memory_of store)
             ≡ opening config.now) }
         ensures whole { IfOk result IsWhole }
@@ -86,6 +87,7 @@ impl PageStore {
         requires buckets { IsTrue (is_bucket_count buckets) }
         requires ring { 1 ≤ ring }
         ensures empty { IfOk result (λ store. memory_of store ≡ empty_memory pages buckets) }
+        ensures cache { IfOk result (λ store. store.cache ≡ no_entries) }
         ensures spaces { IfOk result (λ store. store.spaces ≡ []) }
         ensures whole { IfOk result IsWhole }
         ensures ready { IfOk result (λ store. IsReady store.pool) }

@@ -6,7 +6,8 @@
 //!
 //! A store is whole where its parts fit, as `IsWhole` lists, and ready where its pool is. Each call needs a whole and
 //! ready store and leaves one. A call on a page's bytes reads at most one bucket, and none where the cache has the
-//! page's entry, and takes at most one page. Only `PageStore::create` takes memory.
+//! page's entry, and takes at most one page. Only `PageStore::create` and `PageStore::empty` answer want of memory: a new
+//! entry of the cache takes some, and where there is none the cache stays as it was.
 #![tactic(auto)]
 
 mod create;
@@ -18,6 +19,7 @@ mod store;
 #[cfg(test)]
 mod tests;
 
+pub use create::CACHED_ENTRIES;
 pub use need::Need;
 pub use space::SpaceOf;
 pub use store::{PageStore, offset_of, page_of};

@@ -91,7 +91,7 @@ impl PageStore {
     }
 
     /// The entry of an address's page, where it is mapped and its permission is enough.
-    pub fn find<A: Ledger>(
+    pub(crate) fn find<A: Ledger>(
         &mut self,
         space: Space16,
         addr: Addr,

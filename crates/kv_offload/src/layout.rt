@@ -155,7 +155,7 @@ fn front_of(next: u32, key_len: usize, value_len: usize) -> [u8; 5]
 
 impl Kv {
     /// The node behind this one.
-    pub fn link<P: Space>(&self, space: &mut P, node: u32) -> u32
+    pub(crate) fn link<P: Space>(&self, space: &mut P, node: u32) -> u32
         requires pages { HasPages self.now.records (P.contents space.old) }
         requires node { node < HEADS + self.now.records }
         requires honest { P.honest space.old }
@@ -169,7 +169,7 @@ impl Kv {
     }
 
     /// How many records are counted.
-    pub fn counted<P: Space>(&self, space: &mut P) -> u32
+    pub(crate) fn counted<P: Space>(&self, space: &mut P) -> u32
         requires pages { HasPages self.now.records (P.contents space.old) }
         requires honest { P.honest space.old }
         ensures count { result ≡ count_of (P.contents space.old) }
@@ -181,7 +181,7 @@ impl Kv {
     }
 
     /// What the record in a slot says to one who looks for this key.
-    pub fn visit<P: Space>(&self, space: &mut P, slot: u32, key: &[u8]) -> Visit
+    pub(crate) fn visit<P: Space>(&self, space: &mut P, slot: u32, key: &[u8]) -> Visit
         requires pages { HasPages self.now.records (P.contents space.old) }
         requires slot { slot < self.now.records }
         requires key { length key.now ≤ KEY_BYTES }
@@ -204,7 +204,7 @@ impl Kv {
     }
 
     /// Fills `out` with the front of the value in a slot.
-    pub fn read_value<P: Space>(&self, space: &mut P, slot: u32, out: &mut [u8])
+    pub(crate) fn read_value<P: Space>(&self, space: &mut P, slot: u32, out: &mut [u8])
         requires pages { HasPages self.now.records (P.contents space.old) }
         requires slot { slot < self.now.records }
         requires whole { length out.old ≡ value_size (P.contents space.old) slot }
@@ -219,7 +219,7 @@ impl Kv {
     }
 
     /// Links a node to another.
-    pub fn set_link<P: Space>(&self, space: &mut P, node: u32, to: u32)
+    pub(crate) fn set_link<P: Space>(&self, space: &mut P, node: u32, to: u32)
         requires pages { HasPages self.now.records (P.contents space.old) }
         requires node { node < HEADS + self.now.records }
         requires to { to < 65536 }
@@ -234,7 +234,7 @@ impl Kv {
     }
 
     /// Sets how many records are counted.
-    pub fn set_count<P: Space>(&self, space: &mut P, count: u32)
+    pub(crate) fn set_count<P: Space>(&self, space: &mut P, count: u32)
         requires pages { HasPages self.now.records (P.contents space.old) }
         requires count { count < 65536 }
         requires honest { P.honest space.old }
@@ -248,7 +248,7 @@ impl Kv {
     }
 
     /// Makes a slot free, with this node behind it.
-    pub fn clear<P: Space>(&self, space: &mut P, slot: u32, next: u32)
+    pub(crate) fn clear<P: Space>(&self, space: &mut P, slot: u32, next: u32)
         requires pages { HasPages self.now.records (P.contents space.old) }
         requires slot { slot < self.now.records }
         requires next { next < 65536 }
@@ -263,7 +263,14 @@ impl Kv {
     }
 
     /// Puts a record into a slot, with this node behind it.
-    pub fn fill<P: Space>(&self, space: &mut P, slot: u32, next: u32, key: &[u8], value: &[u8])
+    pub(crate) fn fill<P: Space>(
+        &self,
+        space: &mut P,
+        slot: u32,
+        next: u32,
+        key: &[u8],
+        value: &[u8],
+    )
         requires pages { HasPages self.now.records (P.contents space.old) }
         requires slot { slot < self.now.records }
         requires next { next < 65536 }
@@ -283,7 +290,7 @@ impl Kv {
     }
 
     /// Makes all chains end at their heads, and counts no record.
-    pub fn clear_heads<P: Space>(&self, space: &mut P)
+    pub(crate) fn clear_heads<P: Space>(&self, space: &mut P)
         requires pages { HasPages self.now.records (P.contents space.old) }
         requires honest { P.honest space.old }
         ensures links { (node : ℕ) → node < HEADS → link_of (P.contents space.new) node ≡ 0 }
