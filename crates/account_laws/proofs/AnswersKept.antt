@@ -183,7 +183,7 @@ fence_answers config a l event c k of fence =
     }
 
 -- ---- a delivery
-no_end : (keep : List Entry → List Entry) (config : Config) (l k : ℕ) (items : List Carried) (b : Account) (q : ℕ) → (on_items keep config b l k q items).ended ≡ None
+pub no_end : (keep : List Entry → List Entry) (config : Config) (l k : ℕ) (items : List Carried) (b : Account) (q : ℕ) → (on_items keep config b l k q items).ended ≡ None
 no_end keep config l k [] b q = refl
 no_end keep config l k (i ∷ is) b q = no_end keep config l k is (joined_by b (on_item keep config b l k q i)) (q + 1)
 

@@ -224,7 +224,7 @@ module _ (keep : List Entry → List Entry) (config : Config) (a : Account) (l :
   follows_garbage (Some fault) = calm (did.Bad fault) tt
 
 -- ---- together
-follows : (keep : List Entry → List Entry) (config : Config) (a : Account) (l : ℕ) (e : Event) (c : ClientNo) → Premises a c → client_at config (extended a l e (effect keep config a l e)) c ≡ after_event a l e (client_at config a c)
+pub follows : (keep : List Entry → List Entry) (config : Config) (a : Account) (l : ℕ) (e : Event) (c : ClientNo) → Premises a c → client_at config (extended a l e (effect keep config a l e)) c ≡ after_event a l e (client_at config a c)
 follows keep config a l (event.Call client text) c h = follows_call config a l c client text h (same_client c client) refl
 follows keep config a l (event.Poll client) c h = follows_poll config a l c client h (same_client c client) refl
 follows keep config a l (event.Deliver frame) c h = follows_delivery keep config a l (event.Deliver frame) c h (λ texts. record { no_call = refl; no_poll = refl }) frame

@@ -42,3 +42,5 @@ pub mod LocksKept
 pub mod SoundStates
 pub mod Spelled
 pub mod JunkDropped
+pub mod Ends
+pub mod AddsUp

@@ -16,3 +16,4 @@ pub mod Locks
 pub mod RepliesFit
 pub mod Spelled
 pub mod Junk
+pub mod Ends

@@ -2,6 +2,7 @@
 //! alone, whatever it is given.
 
 ghost use Rattle.account_laws.specs.ClientLines.{PollLaw, IssueLaw, ReplyLaw, QuietLaw};
+ghost use Rattle.account_laws.specs.Ends.{CallsAddUp};
 ghost use Rattle.account_laws.specs.Flights.{FlightLaw};
 ghost use Rattle.account_laws.specs.Following.{ClientsBegin, ClientsFollow, AccountsTell};
 ghost use Rattle.account_laws.specs.Junk.{LawOfJunkHeard};
@@ -22,6 +23,11 @@ pub fn clients_follow_their_machine()
 /// issued.
 pub fn accounts_tell_endings()
     ensures { AccountsTell }
+{}
+
+/// In every account as many calls as a client issued have ended, as the lines tell, or are held by it.
+pub fn calls_add_up()
+    ensures { CallsAddUp }
 {}
 
 /// A client of an account lets a call go exactly where it depends on none of the calls that have not ended.

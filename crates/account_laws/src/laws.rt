@@ -1,5 +1,6 @@
 //! Laws of the account of every schedule.
 
+ghost use Rattle.account_laws.specs.Ends.{SummariesAddUp};
 ghost use Rattle.account_laws.specs.Histories.{LawOfStands, LawOfParts, LawOfOrder};
 ghost use Rattle.account_laws.specs.Runs.{LawOfRuns};
 ghost use Rattle.account_laws.specs.Times.{LawOfTimes};
@@ -45,4 +46,11 @@ pub fn law_of_window()
 /// all, where the node keeps at least one.
 pub fn one_account_for_the_other()
     ensures { OneAccount }
+{}
+
+/// Where the clients of the events are those of the configuration, and no two have one number, each summary adds up: as
+/// many calls were issued as are counted done, refused, timed out and unended together, and as many are unended as the
+/// clients hold.
+pub fn summaries_add_up()
+    ensures { SummariesAddUp }
 {}

@@ -11,7 +11,8 @@ use Rattle.flat_model.specs.Order.{Footprint, footprint, is_fence, may_go, ready
 use Rattle.cl_types.specs.Parts.{same_part}
 use Rattle.flat_model.specs.Client.{ClientCall, ClientPart, ClientState, EndsFence, Polled, Sending, Standing, Unsent, InFlight, Over, fence_first, flight, flights, is_unsent, named, parts_of, prints, sendable, standing_so}
 use Rattle.client_retry.specs.declared.flown.Flown.{Flown}
-use Rattle.client_core.specs.Valid.{AreRising, AreApart}
+use Rattle.flat_model.specs.Apart.{AreApart}
+use Rattle.client_core.specs.Valid.{AreRising}
 use Rattle.client_core.specs.Held.{Held, fence_first_in, has_unsent, held_at, may_send, next_part, part_to_send, print_of, request_at}
 use Rattle.client_core.specs.Fields.{call_in, flown_of, standing_by, standing_flown, standing_in, IsFit}
 use Rattle.client_core.proofs.Basics.{contrary, each_append, each_filter, each_filter_map, each_found, each_with, eqb_below, eqb_same, fence_emptied, none_some, print_emptied}

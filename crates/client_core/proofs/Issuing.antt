@@ -26,7 +26,8 @@ use Rattle.client_retry.specs.declared.flown.Flown.{Flown}
 use Rattle.client_retry.specs.Flights.{Flights}
 use Rattle.call_cut.proofs.PieceLemmas.{few_pieces, pieces_next}
 use Rattle.client_core.specs.Answers.{issue_state}
-use Rattle.client_core.specs.Valid.{AreRising, AreApart, IsHeld, IsValid, name_of}
+use Rattle.flat_model.specs.Apart.{AreApart}
+use Rattle.client_core.specs.Valid.{AreRising, IsHeld, IsValid, name_of}
 use Rattle.client_core.specs.Held.{Held, Holding, fence_first_in, new_held}
 use Rattle.client_core.specs.Fields.{call_in, flown_among, flown_of, standing_by, standing_in, state_of, IsFit, IsSound}
 use Rattle.client_core.proofs.Basics.{cut_emptied, each_append, emptied_twice, eqb_below, eqb_same, faults_emptied, fence_emptied, fence_parts, none_some}

@@ -13,7 +13,8 @@ use Rattle.flat_model.specs.Client.{ClientPart, Standing, Unsent, InFlight, Over
 use Rattle.client_retry.specs.declared.flown.Flown.{Flown}
 use Rattle.client_retry.specs.Flights.{is_before}
 use Rattle.client_core.specs.Held.{Held, held_at, IsAwaited}
-use Rattle.client_core.specs.Valid.{AreRising, AreApart}
+use Rattle.flat_model.specs.Apart.{AreApart}
+use Rattle.client_core.specs.Valid.{AreRising}
 use Rattle.client_core.specs.Fields.{standing_by, standing_flown, standing_in, call_in, flown_of, flown_among, IsFit}
 use Rattle.client_core.proofs.Basics.{eqb_same, eqb_is, eqb_below, contrary, fence_parts, none_some, each_weaker, each_with, each_append, each_filter_map, each_map, each_found}
 use Rattle.client_core.proofs.Flying.{InOrder, HasStanding, IsNamed, same_is}

@@ -1,10 +1,11 @@
 -- What holds of a client's state at every moment.
-use Rattle.std.specs.Prelude.{ℕ, ◌+◌, ◌-◌, ◌*◌, ◌/◌, ◌≡◌, ◌<◌, ◌≤◌, ◌==◌, not, false, List, [], ◌∷◌, length, map, sum_by, Option, None}
-use Rattle.std.specs.List.{AllByRecursion as Each, list_any}
+use Rattle.std.specs.Prelude.{ℕ, ◌+◌, ◌-◌, ◌*◌, ◌/◌, ◌≡◌, ◌<◌, ◌≤◌, not, List, [], ◌∷◌, length, map, sum_by, Option, None}
+use Rattle.std.specs.List.{AllByRecursion as Each}
 use Rattle.cl_types.specs.declared.call.Call.{Call}
 use Rattle.cl_types.specs.declared.request.Request.{Request}
 use Rattle.cl_types.specs.declared.reply.Part.{Part}
 use Rattle.cl_types.specs.declared.limits.TheConstants.{HELD_CALLS, LAST_RESEND, TIMEOUT}
+use Rattle.flat_model.specs.Apart.{AreApart}
 use Rattle.flat_model.specs.Faults.{first_fault}
 use Rattle.flat_model.specs.Issue.{call_faults}
 use Rattle.flat_model.specs.Client.{ClientState, ClientCall, ClientPart, Standing, Unsent, InFlight, Over, Sending, parts_of, parts_named, flights, finished, held}
@@ -13,11 +14,6 @@ use Rattle.flat_model.specs.Client.{ClientState, ClientCall, ClientPart, Standin
 abbrev pub AreRising : ℕ → ℕ → List ℕ → Type 0
 AreRising n last [] = n ≤ last
 AreRising n last (m ∷ ms) = (n < m) × AreRising m last ms
-
--- no number stands twice
-abbrev pub AreApart : List ℕ → Type 0
-AreApart [] = Unit {0}
-AreApart (n ∷ ns) = (list_any (λ m. m == n) ns ≡ false) × AreApart ns
 
 -- the ids under which the parts in flight were first sent
 abbrev pub origs : ClientState → List ℕ

@@ -34,3 +34,4 @@ pub mod FrameLaws
 pub mod Rows
 pub mod Checks
 pub mod StartLaws
+pub mod Apart
