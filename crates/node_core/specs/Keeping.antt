@@ -1,5 +1,5 @@
 -- What a contract sees of a keeping node, and of what it answers.
-use Rattle.std.specs.Prelude.{ℕ, ◌≡◌, ◌≤◌, List, [], ◌∷◌, take, Option, Some, None, Result, Ok, Err, IfSome, IsTrue, slice_get}
+use Rattle.std.specs.Prelude.{ℕ, ◌≡◌, ◌≤◌, List, [], ◌∷◌, take, Option, Some, None, Result, Ok, Err, IfSome, IsSome, IsSomeAnd, IsTrue, slice_get}
 use Rattle.cl_types.specs.declared.call.Kind.{Kind}
 use Rattle.cl_types.specs.declared.frame.Head.{Head}
 use Rattle.cl_types.specs.declared.frame.How.{How}
@@ -7,7 +7,6 @@ use Rattle.cl_types.specs.declared.frame.How.TheVariants.{Executed, Looked}
 use Rattle.cl_types.specs.declared.reply.Refusal.{Refusal}
 use Rattle.cl_types.specs.declared.reply.Reply.{Reply}
 use Rattle.cl_types.specs.declared.request.Request.{Request}
-use Rattle.cl_types.specs.declared.request.Request.TheVariants as request
 use Rattle.cl_types.specs.declared.request.RequestRef.{RequestRef}
 use Rattle.cl_types.specs.Requests.{request_of}
 use Rattle.flat_model.specs.Frames.{Item, is_reply_of, items_in, reply_frame, kind_of, status_in}
@@ -17,10 +16,10 @@ use Rattle.data_path.specs.Store.{IsLatest}
 use Rattle.flat_model.specs.Objects.{Object}
 use Rattle.flat_model.specs.Objects.Object.{KvObject}
 use Rattle.kv_offload.specs.Stored.{pairs_in}
-use Rattle.flat_model.specs.Pages.{page_of}
 use Rattle.flat_model.specs.State.{FlatState}
-use Rattle.translate_cache.specs.Cached.{Cached}
+use Rattle.translate_cache.specs.Cached.{Cached, entry_of}
 use Rattle.flat_model.specs.Nodes.{Node, Said, Gives, IsBusy, NodeAnswer, Refuses, Says}
+use Rattle.node_core.specs.Placed.{page_used}
 use Rattle.node_core.specs.declared.outcome.Outcome.{Outcome}
 use Rattle.node_core.specs.declared.outcome.Outcome.TheVariants.{Replied, Busy, Bad}
 
@@ -73,26 +72,26 @@ IsHeldIn bytes (KvObject records pairs) = pairs ≡ pairs_in records bytes
 abbrev pub LieIn : PageStore → List Object → Type 0
 LieIn store objects = (number : ℕ) → IfSome (slice_get objects number) (IsHeldIn (contents_of number store))
 
--- the entry of the page that the request accesses is the latest used one, or isn't there
-abbrev pub IsUsed : Cached → ℕ → Request → Type 0
-IsUsed cache pid (request.Read addr len) = IsLatest cache (pid, page_of addr)
-IsUsed cache pid (request.Write addr bytes) = IsLatest cache (pid, page_of addr)
-IsUsed cache pid (request.Atomic addr op) = IsLatest cache (pid, page_of addr)
--- no other request accesses one page
-IsUsed cache pid other = Unit {0}
+-- the request accesses a page of which the cache has the entry
+abbrev pub Hits : Cached → ℕ → Request → Type 0
+Hits cache pid request = IsSomeAnd (page_used request) (λ vpn. IsSome (entry_of cache (pid, vpn)))
 
--- the outcome tells that a request was executed anew, whose page is then the latest used one
+-- the entry of the page that the request accesses, where it accesses one, is the latest used one, or isn't there
+abbrev pub IsUsed : Cached → ℕ → Request → Type 0
+IsUsed cache pid request = IfSome (page_used request) (λ vpn. IsLatest cache (pid, vpn))
+
+-- where the outcome tells that the request was executed anew, the entry of its page is the latest used one, or isn't there
 abbrev pub Uses : Cached → ℕ → Request → Outcome → Type 0
 Uses cache pid request (Replied len Executed status) = IsUsed cache pid request
 Uses cache pid request (Replied len Looked status) = IsUsed cache pid request
 -- nothing was executed
 Uses cache pid request other = Unit {0}
 
--- where the outcome tells that nothing was executed anew, the entries that were used of late are as before
-abbrev pub KeepsCache : Outcome → Cached → Cached → Type 0
-KeepsCache (Replied len Executed status) before after = Unit {0}
-KeepsCache (Replied len Looked status) before after = Unit {0}
-KeepsCache other before after = after ≡ before
+-- where the outcome tells that nothing was executed anew, this holds
+abbrev pub OnIdle : Outcome → Type 0 → Type 0
+OnIdle (Replied len Executed status) P = Unit {0}
+OnIdle (Replied len Looked status) P = Unit {0}
+OnIdle other P = P
 
 -- the item of a request that borrows its bytes
 abbrev pub item_of : Head → RequestRef → Item

@@ -1,5 +1,5 @@
 -- Replies on their way into a frame.
-use Rattle.std.specs.Prelude.{ℕ, Bool, true, false, List}
+use Rattle.std.specs.Prelude.{ℕ, Bool, true, false, List, Option, Some, None, is_some}
 use Rattle.cl_types.specs.declared.call.Kind.{Kind}
 use Rattle.cl_types.specs.declared.request.Request.{Request}
 use Rattle.cl_types.specs.declared.request.Request.TheVariants as request
@@ -7,6 +7,7 @@ use Rattle.cl_types.specs.declared.reply.Reply.{Reply}
 use Rattle.cl_types.specs.declared.reply.Reply.TheVariants as reply
 use Rattle.cl_types.specs.Bytes.{bytes_at}
 use Rattle.flat_model.specs.Frames.{is_reply_of}
+use Rattle.flat_model.specs.Pages.{page_of}
 use Rattle.frame_codec.specs.Writing.{may_carry}
 use Rattle.node_core.specs.declared.placed.PlacedReply.{PlacedReply}
 use Rattle.node_core.specs.declared.placed.PlacedReply.TheVariants as placed
@@ -27,12 +28,16 @@ may_place kind (placed.At addr) = is_reply_of kind (reply.At addr)
 may_place kind (placed.Word word) = is_reply_of kind (reply.Word word)
 may_place kind (placed.Got n) = may_carry kind n
 
+-- the number of the page whose bytes the request reads or writes, where it does so
+abbrev pub page_used : Request → Option ℕ
+page_used (request.Read addr len) = Some (page_of addr)
+page_used (request.Write addr bytes) = Some (page_of addr)
+page_used (request.Atomic addr op) = Some (page_of addr)
+page_used other = None
+
 -- the request reads or writes bytes of one page
 abbrev pub is_access : Request → Bool
-is_access (request.Read addr len) = true
-is_access (request.Write addr bytes) = true
-is_access (request.Atomic addr op) = true
-is_access other = false
+is_access request = is_some (page_used request)
 
 -- the request is one of an object
 abbrev pub is_offload : Request → Bool

@@ -8,7 +8,7 @@ ghost use Rattle.flat_model.specs.Nodes.{handles, keeping, node_answer, node_giv
 ghost use Rattle.flat_model.specs.Ranges.{is_in_range};
 ghost use Rattle.flat_model.specs.Step.{outcome};
 ghost use Rattle.node_core.specs.Fields.{handling_at, handling_of, reply_kept, IsSpelled, IsSpelledWhereRepeated};
-ghost use Rattle.node_core.specs.Keeping.{KeepsCache, Tells, TellsReply, TellsSaid, Uses, item_of};
+ghost use Rattle.node_core.specs.Keeping.{Hits, OnIdle, Tells, TellsReply, TellsSaid, Uses, item_of};
 ghost use Rattle.node_core.specs.Placed.{is_access};
 
 use crate::machine::Machine;
@@ -134,7 +134,11 @@ impl<M: Machine + Drop> Keeper<M> {
         } }
         ensures answer { Tells frame.now (node_answer latest self.old.node now frame.now) result out.new }
         ensures latest { Uses self.new.cache (head_in frame.now).pid (request_in frame.now) result }
-        ensures idle { KeepsCache result self.old.cache self.new.cache }
+        ensures idle { OnIdle result (self.new.cache ≡ self.old.cache) }
+        ensures idle_reads { OnIdle result (reads.new ≡ reads.old) }
+        ensures idle_takes { OnIdle result (takes.new ≡ takes.old) }
+        ensures hit { Hits self.old.cache (head_in frame.now).pid (request_in frame.now)
+            → reads.new ≡ reads.old }
         ensures reads { is_access (request_in frame.now) ≡ true → reads.new ≤ reads.old + 1 }
         ensures takes { is_access (request_in frame.now) ≡ true → takes.new ≤ takes.old + 1 }
     {
@@ -164,7 +168,11 @@ impl<M: Machine + Drop> Keeper<M> {
         ensures answer { let item = item_of head.now request.now in
             TellsSaid item (keeping self.old.node self.old.last item).said result out.new }
         ensures latest { Uses self.new.cache head.now.pid (request_of request.now) result }
-        ensures idle { KeepsCache result self.old.cache self.new.cache }
+        ensures idle { OnIdle result (self.new.cache ≡ self.old.cache) }
+        ensures idle_reads { OnIdle result (reads.new ≡ reads.old) }
+        ensures idle_takes { OnIdle result (takes.new ≡ takes.old) }
+        ensures hit { Hits self.old.cache head.now.pid (request_of request.now)
+            → reads.new ≡ reads.old }
         ensures reads { is_access (request_of request.now) ≡ true → reads.new ≤ reads.old + 1 }
         ensures takes { is_access (request_of request.now) ≡ true → takes.new ≤ takes.old + 1 }
     {
@@ -214,7 +222,11 @@ impl<M: Machine + Drop> Keeper<M> {
         ensures answer { let reply = (outcome self.old.node.flat head.now.pid (request_of request.now)).reply in
             TellsReply head.now (kind_of (request_of request.now)) How.Looked reply result out.new }
         ensures latest { Uses self.new.cache head.now.pid (request_of request.now) result }
-        ensures idle { KeepsCache result self.old.cache self.new.cache }
+        ensures idle { OnIdle result (self.new.cache ≡ self.old.cache) }
+        ensures idle_reads { OnIdle result (reads.new ≡ reads.old) }
+        ensures idle_takes { OnIdle result (takes.new ≡ takes.old) }
+        ensures hit { Hits self.old.cache head.now.pid (request_of request.now)
+            → reads.new ≡ reads.old }
         ensures reads { is_access (request_of request.now) ≡ true → reads.new ≤ reads.old + 1 }
         ensures takes { is_access (request_of request.now) ≡ true → takes.new ≤ takes.old + 1 }
     {
@@ -248,7 +260,11 @@ impl<M: Machine + Drop> Keeper<M> {
         ensures answer { let reply = (outcome self.old.node.flat head.now.pid (request_of request.now)).reply in
             TellsReply head.now (kind_of (request_of request.now)) How.Executed reply result out.new }
         ensures latest { Uses self.new.cache head.now.pid (request_of request.now) result }
-        ensures idle { KeepsCache result self.old.cache self.new.cache }
+        ensures idle { OnIdle result (self.new.cache ≡ self.old.cache) }
+        ensures idle_reads { OnIdle result (reads.new ≡ reads.old) }
+        ensures idle_takes { OnIdle result (takes.new ≡ takes.old) }
+        ensures hit { Hits self.old.cache head.now.pid (request_of request.now)
+            → reads.new ≡ reads.old }
         ensures reads { is_access (request_of request.now) ≡ true → reads.new ≤ reads.old + 1 }
         ensures takes { is_access (request_of request.now) ≡ true → takes.new ≤ takes.old + 1 }
     {

@@ -5,7 +5,7 @@ ghost use Rattle.cl_types.specs.Requests.{request_of};
 ghost use Rattle.flat_model.specs.Frames.{kind_of};
 ghost use Rattle.flat_model.specs.Ranges.{is_in_range};
 ghost use Rattle.flat_model.specs.Step.{outcome};
-ghost use Rattle.node_core.specs.Keeping.{IsUsed};
+ghost use Rattle.node_core.specs.Keeping.{Hits, IsUsed};
 ghost use Rattle.node_core.specs.Placed.{may_place, placed_in, is_access};
 
 use crate::placed::PlacedReply;
@@ -43,6 +43,7 @@ pub trait Machine {
             ≡ (outcome (flat self.old) pid (request_of request.now)).state }
         ensures fits { IsTrue (may_place (kind_of (request_of request.now)) result) }
         ensures latest { IsUsed (cache self.new) pid (request_of request.now) }
+        ensures hit { Hits (cache self.old) pid (request_of request.now) → reads.new ≡ reads.old }
         ensures reads { is_access (request_of request.now) ≡ true → reads.new ≤ reads.old + 1 }
         ensures takes { is_access (request_of request.now) ≡ true → takes.new ≤ takes.old + 1 };
 }

@@ -1,6 +1,6 @@
 //! `Memory`: the pages and the objects of a node, as a machine.
 
-ghost use Rattle.std.specs.Prelude.{◌≡◌, ◌+◌, ◌<◌, ◌≤◌, None, Err, IfErr, IfOk, MatchOption};
+ghost use Rattle.std.specs.Prelude.{◌≡◌, ◌+◌, ◌<◌, ◌≤◌, None, Err, IfErr, IfOk, MatchOption, OnErr};
 ghost use Rattle.std.specs.Prelude.{length, option_map};
 ghost use Rattle.cl_types.specs.Bytes.{bytes_at};
 ghost use Rattle.cl_types.specs.Config.{bad_number_of};
@@ -105,6 +105,7 @@ impl Memory {
             (λ page. bytes_at (offset_of addr) (length out.old) (bytes_of page))
             (page_at self.now.flat pid (page_of addr)) }
         ensures refused { IfErr result (λ refusal. refusal ≡ NoMapping) }
+        ensures kept { OnErr result (out.new ≡ out.old) }
     {
         let space = Space16(pid.number());
         let Some(pte) = self.store.table.peek(space, page_of(addr)) else {

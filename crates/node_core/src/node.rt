@@ -1,6 +1,6 @@
 //! `Node`: the keeping node over its pages.
 
-ghost use Rattle.std.specs.Prelude.{◌≡◌, ◌+◌, ◌≤◌, true, Err, IfErr, IfOk, MatchOption, length, option_map};
+ghost use Rattle.std.specs.Prelude.{◌≡◌, ◌+◌, ◌≤◌, true, Err, IfErr, IfOk, MatchOption, OnErr, length, option_map};
 ghost use Rattle.cl_types.specs.Bytes.{bytes_at};
 ghost use Rattle.cl_types.specs.declared.reply.Refusal.TheVariants.{NoMapping};
 ghost use Rattle.data_path.specs.Access.{IsPiece};
@@ -11,7 +11,7 @@ ghost use Rattle.flat_model.specs.Nodes.{node_answer, node_given, opening_node};
 ghost use Rattle.flat_model.specs.Opening.{open_fault};
 ghost use Rattle.flat_model.specs.Pages.{offset_of, page_of};
 ghost use Rattle.flat_model.specs.State.{bytes_of, page_at, used};
-ghost use Rattle.node_core.specs.Keeping.{KeepsCache, LieIn, Tells, Uses, shown_in};
+ghost use Rattle.node_core.specs.Keeping.{Hits, LieIn, OnIdle, Tells, Uses, shown_in};
 ghost use Rattle.node_core.specs.Placed.{is_access};
 ghost use Rattle.page_pool.specs.PoolPages.{IsReady};
 
@@ -63,7 +63,8 @@ impl Node {
     }
 
     /// Handles the bytes of a datagram at the moment `now`, in ticks. The frame of a reply is written
-    /// at the start of `out`.
+    /// at the start of `out`. `reads` and `takes` count the look-ups in the page table and the pages
+    /// that are taken by a Read, Write or Atomic.
     pub fn step<A: Ledger, B: Ledger>(
         &mut self,
         now: u64,
@@ -81,7 +82,11 @@ impl Node {
         } }
         ensures answer { Tells frame.now (node_answer latest self.old.node now frame.now) result out.new }
         ensures latest { Uses self.new.cache (head_in frame.now).pid (request_in frame.now) result }
-        ensures idle { KeepsCache result self.old.cache self.new.cache }
+        ensures idle { OnIdle result (self.new.cache ≡ self.old.cache) }
+        ensures idle_reads { OnIdle result (reads.new ≡ reads.old) }
+        ensures idle_takes { OnIdle result (takes.new ≡ takes.old) }
+        ensures hit { Hits self.old.cache (head_in frame.now).pid (request_in frame.now)
+            → reads.new ≡ reads.old }
         ensures reads { is_access (request_in frame.now) ≡ true → reads.new ≤ reads.old + 1 }
         ensures takes { is_access (request_in frame.now) ≡ true → takes.new ≤ takes.old + 1 }
     {
@@ -96,13 +101,14 @@ impl Node {
     }
 
     /// Shows bytes of a page of a process, whatever its permission. It is refused exactly where the
-    /// page isn't mapped.
+    /// page isn't mapped, and then `out` stays as it was.
     pub fn peek(&self, pid: Pid, addr: Addr, out: &mut [u8]) -> Result<(), Refusal>
         requires { IsPiece addr (length out.old) }
         ensures shown { shown_in result out.new ≡ option_map
             (λ page. bytes_at (offset_of addr) (length out.old) (bytes_of page))
             (page_at self.now.node.flat pid (page_of addr)) }
         ensures refused { IfErr result (λ refusal. refusal ≡ NoMapping) }
+        ensures kept { OnErr result (out.new ≡ out.old) }
     {
         self.keeper.machine().peek(pid, addr, out)
     }

@@ -1,6 +1,6 @@
 //! Requests of processes, on the pages of a node.
 
-ghost use Rattle.std.specs.Prelude.{◌≡◌, ◌+◌, ◌≤◌, ℕ, List, true, false, length, IsTrue};
+ghost use Rattle.std.specs.Prelude.{◌≡◌, ◌+◌, ◌≤◌, ℕ, List, true, false, length, IsSome, IsTrue};
 ghost use Rattle.cl_types.specs.declared.call.Kind.TheVariants.{Alloc as AllocKind, Atomic as AtomicKind, Free as FreeKind, Read as ReadKind, Write as WriteKind};
 ghost use Rattle.cl_types.specs.declared.reply.Reply.TheVariants.{Nothing, At, Word};
 ghost use Rattle.cl_types.specs.Places.{is_process};
@@ -11,9 +11,10 @@ ghost use Rattle.flat_model.specs.Frames.{kind_of};
 ghost use Rattle.flat_model.specs.Pages.{page_of};
 ghost use Rattle.flat_model.specs.Ranges.{is_in_range, is_page_count, is_piece};
 ghost use Rattle.flat_model.specs.Step.{alloc, outcome, read};
-ghost use Rattle.node_core.specs.Keeping.{IsUsed};
+ghost use Rattle.node_core.specs.Keeping.{Hits, IsUsed};
 ghost use Rattle.node_core.specs.Placed.{is_access, is_offload, may_place, placed_in};
 ghost use Rattle.page_pool.specs.PoolPages.{IsReady};
+ghost use Rattle.translate_cache.specs.Cached.{entry_of};
 
 use crate::placed::{PlacedReply, VALUE_AT};
 use cl_types::call::Perm;
@@ -68,6 +69,7 @@ fn read_placed<A: Ledger>(
     ensures ready { IsReady store.new.pool }
     ensures spaces { store.new.spaces ≡ store.old.spaces }
     ensures latest { IsLatest store.new.cache (pid, page_of addr) }
+    ensures hit { IsSome (entry_of store.old.cache (pid, page_of addr)) → reads.new ≡ reads.old }
     ensures cost { reads.new ≤ reads.old + 1 }
 {
     let (_, tail) = out.split_at_mut(VALUE_AT);
@@ -122,6 +124,7 @@ pub fn execute<A: Ledger, B: Ledger>(
     ensures ready { IsReady store.new.pool }
     ensures spaces { store.new.spaces ≡ store.old.spaces }
     ensures latest { IsUsed store.new.cache pid (request_of request.now) }
+    ensures hit { Hits store.old.cache pid (request_of request.now) → reads.new ≡ reads.old }
     ensures reads { is_access (request_of request.now) ≡ true → reads.new ≤ reads.old + 1 }
     ensures takes { is_access (request_of request.now) ≡ true → takes.new ≤ takes.old + 1 }
 {

@@ -1,6 +1,10 @@
 //! Worked rows: frames that are handed to a node one after the other, and what it answers.
 
-ghost use Rattle.std.specs.Prelude.{◌≡◌, ◌<◌, ◌≤◌};
+ghost use Rattle.std.specs.Prelude.{◌≡◌, ◌+◌, ◌<◌, ◌≤◌, ℕ, true};
+ghost use Rattle.cl_types.specs.declared.numbers.Addr.{Addr as Address};
+ghost use Rattle.cl_types.specs.declared.request.Request.TheVariants.{Read};
+ghost use Rattle.flat_model.specs.Frames.{head_in, request_in};
+ghost use Rattle.flat_model.specs.Pages.{page_of};
 
 use crate::node::Node;
 use crate::outcome::Outcome;
@@ -27,6 +31,12 @@ const WRITE: u8 = 4;
 const ATOMIC: u8 = 5;
 
 const OFFLOAD: u8 = 6;
+
+// The reply to an Alloc of id 1 that was given the page at 0x1000.
+const PAGE_GIVEN: [u8; 31] = [
+    0x43, 0x4c, 1, 0x81, 0, 1, 0, 1, 0, 0, 0, 0, 0, 0, 0, 1, 0, 0, 0, 0, 0, 0, 0, 1, 0, 5, 0, 0, 0,
+    16, 0,
+];
 
 /// A node, and the buffer of its replies.
 #[derive(Drop)]
@@ -111,7 +121,70 @@ fn step<A: Ledger, B: Ledger>(
         .step(moment, frame, &mut tried.out, &mut reads, &mut takes)
 }
 
+/// Takes two steps at the latest moment, and tells their outcomes and whether the cache had the page's
+/// entry between them. Where it had, two reads of the page read at most one bucket together.
+fn step_twice<A: Ledger, B: Ledger>(
+    tried: &mut Tried,
+    first: &[u8],
+    second: &[u8],
+    space: Space16,
+    vpn: Vpn,
+    reads: &mut Steps<A>,
+    takes: &mut Steps<B>,
+) -> (Outcome, bool, Outcome)
+    ensures { (a b : Address) (m n : ℕ) → page_of a ≡ vpn.0 → page_of b ≡ vpn.0
+        → (head_in first.now).pid ≡ space.0 → request_in first.now ≡ Read a m
+        → (head_in second.now).pid ≡ space.0 → request_in second.now ≡ Read b n
+        → result.1 ≡ true → reads.new ≤ reads.old + 1 }
+{
+    let now = tried.node.last();
+    let Tried { node, out } = tried;
+    let looked = node.step(now, first, out, reads, takes);
+    let cached = node.store().cache.contains(space, vpn);
+    (looked, cached, node.step(now, second, out, reads, takes))
+}
+
+/// The same for page 1 of process 1, with counters of their own.
+fn step_twice_counted<A: Ledger, B: Ledger>(
+    tried: &mut Tried,
+    first: &[u8],
+    second: &[u8],
+    reads: Blank,
+    takes: Blank,
+) -> (Outcome, bool, Outcome)
+    requires reads_name { reads.name ≡ A.name }
+    requires reads_parts { reads.parts ≡ A.parts }
+    requires reads_some { 0 < reads.parts }
+    requires takes_name { takes.name ≡ B.name }
+    requires takes_parts { takes.parts ≡ B.parts }
+    requires takes_some { 0 < takes.parts }
+{
+    let mut reads = Steps::<A>::create(reads);
+    let mut takes = Steps::<B>::create(takes);
+    step_twice(
+        tried,
+        first,
+        second,
+        Space16(1),
+        Vpn(1),
+        &mut reads,
+        &mut takes,
+    )
+}
+
 impl Tried {
+    /// What the node says of two reads of page 1 of process 1, and whether its cache had the page's
+    /// entry between them.
+    fn read_twice(&mut self) -> (Outcome, bool, Outcome) {
+        let mut first = [0; 64];
+        let first_len = spell((READ, &[0, 0, 16, 0, 0, 4]), 2, &mut first);
+        let mut second = [0; 64];
+        let second_len = spell((READ, &[0, 0, 16, 8, 0, 8]), 3, &mut second);
+        let (reads, takes) = (Blank::new(1), Blank::new(1));
+        let (first, second) = (&first[..first_len], &second[..second_len]);
+        step_twice_counted::<Brand, Brand>(self, first, second, reads, takes)
+    }
+
     /// What the node says of bytes.
     fn hand(&mut self, now: u64, bytes: &[u8]) -> Outcome {
         step::<Brand, Brand>(self, now, bytes, Blank::new(1), Blank::new(1))
@@ -161,6 +234,11 @@ impl Tried {
         Ok(shown)
     }
 
+    /// Whether the lent store's cache has the entry of page 1 of process 1.
+    fn has_cached(&self) -> bool {
+        self.node.store().cache.contains(Space16(1), Vpn(1))
+    }
+
     /// Whether the lent store maps a page of process 1.
     fn is_mapped(&self, page: u16) -> bool {
         self.node
@@ -191,10 +269,11 @@ fn a_full_buffer_is_busy_while_its_oldest_record_is_young(rt: HostRuntime) -> Re
     let page: Asked = (ALLOC, &[0, 1, 3]);
     let write: Asked = (WRITE, &[0, 0, 16, 0, 0x61, 0x62, 0x63]);
     assert_eq!(rt; tried.ask(0, 1, page), replied(31, How::Executed));
-    assert!(rt; tried.told(&[0, 0, 0, 16, 0]));
+    assert_eq!(rt; &tried.out[..31], PAGE_GIVEN.as_slice());
     assert_eq!(rt; tried.ask(399, 2, write), busy(0, 399));
+    tried.out = [7; 1200];
     assert_eq!(rt; tried.ask(399, 1, page), replied(31, How::Repeated));
-    assert!(rt; tried.told(&[0, 0, 0, 16, 0]));
+    assert_eq!(rt; &tried.out[..31], PAGE_GIVEN.as_slice());
     assert_eq!(rt; tried.ask(400, 2, write), replied(27, How::Executed));
     assert_eq!(rt; tried.ask(400, 1, page), busy(400, 400));
     assert_eq!(rt; tried.ask(800, 1, page), replied(31, How::Executed));
@@ -228,6 +307,18 @@ fn a_freed_page_is_taken_again_with_zeros(rt: HostRuntime) -> Result<(), Fail> {
     assert!(rt; tried.answers(7, (READ, &[0, 0, 32, 0, 0, 4]), &[0, 0xaa, 0, 0, 0]));
     assert_eq!(rt; tried.used(), 1);
     assert_eq!(rt; tried.retained(), 6);
+    Ok(())
+}
+
+#[test]
+fn two_reads_of_a_page_read_its_bucket_once(rt: HostRuntime) -> Result<(), Fail> {
+    let mut tried = node_of(rt.alloc(), 16, 2, 4, 16).expect(&rt, "opens");
+    assert!(rt; tried.answers(1, (ALLOC, &[0, 1, 3]), &[0, 0, 0, 16, 0]));
+    assert!(rt; !tried.has_cached());
+    tried.out = [7; 1200];
+    let looked = (replied(31, How::Looked), true, replied(35, How::Looked));
+    assert_eq!(rt; tried.read_twice(), looked);
+    assert!(rt; tried.told(&[0; 9]));
     Ok(())
 }
 
