@@ -1,9 +1,8 @@
 -- The loop over the events of a schedule, and the whole transcript.
-use Rattle.std.proofs.Common.{◌≡◌, ℕ, ◌+◌, ◌-◌, ◌<◌, List, [], ◌∷◌, ◌++◌, Option, Some, None, refl, sym, ap, subst, ◌∙◌, length, map, arith, append-nil, append_assoc, length-append}
+use Rattle.std.proofs.Common.{◌≡◌, ℕ, ◌+◌, ◌<◌, List, [], ◌∷◌, ◌++◌, Option, Some, None, refl, sym, ap, subst, ◌∙◌, length, arith, append-nil, append_assoc, length-append}
 use Rattle.std.specs.Prelude.{◌^◌, false, flat_map, slice_get}
 use Rattle.std.specs.List.{AllByRecursion as Each}
 use Rattle.std.proofs.lemmas.Grind.{flat_map-append}
-use Rattle.std.proofs.Math.Seq.{drop-nil}
 use Rattle.cl_outside.specs.Loops.{WroteFront}
 use Rattle.cl_outside.specs.Told.{Added}
 use Rattle.cl_types.specs.declared.config.Config.{Config}
@@ -14,24 +13,22 @@ use Rattle.cl_types.specs.declared.schedule.Schedule.{Schedule}
 use Rattle.flat_model.specs.Account.{Account, Effect, Line, now, nothing_yet}
 use Rattle.flat_model.specs.Events.{account_from, account_of_latest, effect, next_account}
 use Rattle.flat_model.specs.Handling.{latest}
-use Rattle.flat_model.specs.Nodes.{opening_node}
-use Rattle.flat_model.specs.State.{opening}
 use Rattle.flat_model.specs.Text.{Text}
 use Rattle.flat_model.specs.Texts.{account_text, entry_text, line_text, numbered_text, transcript}
-use Rattle.account_laws.specs.NodeLines.{node_at, record_at}
 use Rattle.account_laws.specs.ReadSchedules.{IsGood}
 use Rattle.account_laws.specs.Schedules.{IsRisingFrom}
 use Rattle.account_laws.proofs.Lists.{each_slice_get}
 use Rattle.account_laws.proofs.Spelled.{rises_from_zero}
 use Rattle.account_laws.proofs.WindowKept.{one_account}
-use Rattle.world.specs.Follows.{Stands, StandsOn}
+use Rattle.world.specs.Follows.{StandsBehind, StandsOn, opened}
 use Rattle.transcript_text.specs.Statuses.{HasGoodStatus}
-use Rattle.world.specs.Running.{IsFair, Running, stepped}
+use Rattle.world.specs.Running.{IsFair, Running, stepped, summed_on}
 use Rattle.world.specs.Worlds.{Stepped, World, step}
+use Rattle.world.proofs.Beginning.{behind_none}
 use Rattle.world.proofs.Follows.{worlds_follow}
+use Rattle.world.proofs.Standing.{behind_next}
 use Rattle.clio_cli.specs.Gathered.{Gathered}
-use Rattle.clio_cli.specs.Headline.{StandsBehind, last_line}
-use Rattle.clio_cli.specs.Replay.{After, IsServed, end_text, event_text, history_text, opened, step_text, text_of_events}
+use Rattle.clio_cli.specs.Replay.{After, IsServed, end_text, event_text, history_text, step_text, text_of_events}
 use Rattle.clio_cli.proofs.GatherLemmas.{added_none, front_on, front_wider, gathered_all, gathered_on}
 use Rattle.clio_cli.proofs.StepLemmas.{good_step}
 
@@ -125,12 +122,6 @@ next_is [] [] e at = absurd (let never : ◌≡◌ {A = Option (ℕ × Event)} N
 next_is [] (x ∷ more) e at = let same : x ≡ e = cc in (more, ap (λ y. y ∷ more) same)
 next_is (x ∷ done) rest e at = next_is done rest e at
 
--- the line of the last event
-last_of : (done : List (ℕ × Event)) (e : ℕ × Event) → last_line (done ++ e ∷ []) ≡ e.0
-last_of [] e = refl
-last_of (x ∷ []) e = refl
-last_of (x ∷ y ∷ done) e = last_of (y ∷ done) e
-
 -- ---- one event more
 module _ (s : Schedule) (served : IsServed s) (i : ℕ) (w : Running) (held : Text) (before mid : Option (List ℕ)) (after : After s i w held before mid) (e : ℕ × Event) (at : slice_get s.events i ≡ Some e) where
   next : (more : List (ℕ × Event)) × (after.rest ≡ e ∷ more)
@@ -157,20 +148,18 @@ module _ (s : Schedule) (served : IsServed s) (i : ℕ) (w : Running) (held : Te
   on =
       let good : IsGood s.config (after.done ++ e ∷ []) = good_front s.config (after.done ++ e ∷ []) next.0 (subst (IsGood s.config) split served.good) in
       let place = after.place in let late = after.late in let later = event_later in let low = event_bounded in
-      worlds_follow s.config after.done e.0 e.1 w.world served.keeps good (omega (arith, place, late, later, low)) after.stands
+      worlds_follow s.config after.done e.0 e.1 w.world served.keeps good (omega (arith, place, late, later, low)) after.behind.stands
 
-  pub after_next : (v : Running) (left : Text) (now : Option (List ℕ)) → v.world ≡ (step w.world e.0 e.1).world → v.line ≡ e.0 → v.spent ≡ false
+  pub after_next : (v : Running) (left : Text) (now : Option (List ℕ)) → v.world ≡ (step w.world e.0 e.1).world → v.summary ≡ summed_on (step w.world e.0 e.1) w.summary → v.line ≡ e.0 → v.spent ≡ false
       → Gathered (held ++ event_text w.world e.0 e.1) left mid now → After s (i + 1) v left before now
-  after_next v left now is line unspent gathered = record {
+  after_next v left now is summary line unspent gathered = record {
     done = after.done ++ e ∷ [];
     rest = next.0;
     split = split;
     place = length-append after.done (e ∷ []) ∙ ap (λ n. n + 1) after.place;
     late = let late = after.late in let later = event_later in omega (arith, line, late, later);
     rising = subst (λ n. IsRisingFrom (n + 1) next.0) (sym line) rising.1;
-    stands = subst (Stands s.config (account_of_latest s.config (after.done ++ e ∷ []))) (sym is) on.stands;
-    line = line ∙ sym (last_of after.done e);
-    unspent = unspent;
+    behind = behind_next s.config after.done e.0 e.1 w v after.behind on is summary line unspent;
     gathered = subst (λ (t : Text). Gathered t left before now) (sym (text_next s after.done e.0 e.1 w.world on))
         (gathered_on (text_of_events s after.done) held (event_text w.world e.0 e.1) before mid now after.gathered left gathered);
   }
@@ -192,13 +181,9 @@ after_none s w held before served first is = record {
   place = refl;
   late = omega arith;
   rising = subst (λ (x : Running). IsRisingFrom (x.line + 1) s.events) (sym first) served.good.rising;
-  stands = subst (λ (x : Running). Stands s.config nothing_yet x.world) (sym first) (record { moment = refl; node = node_opens; clients = refl; frames = refl; handed_out = refl; notes = tt; history = refl });
-  line = ap (λ (x : Running). x.line) first;
-  unspent = ap (λ (x : Running). x.spent) first;
+  behind = subst (StandsBehind s.config []) (sym first) (behind_none s.config);
   gathered = record { gone = []; split = append-nil s.header ∙ sym is; written = added_none before };
-} where
-  node_opens : opening_node s.config.node ≡ node_at s.config nothing_yet
-  node_opens = ap (λ (entries : List Entry). record { flat = opening s.config.node; records = map (record_at nothing_yet) entries; retry = s.config.node.retry }) (sym (drop-nil (0 - s.config.node.retry)))
+}
 
 all_done : (done rest : List (ℕ × Event)) → length done ≡ length (done ++ rest) → done ++ rest ≡ done
 all_done done [] long = append-nil done
@@ -208,12 +193,8 @@ module _ (s : Schedule) (served : IsServed s) (w : Running) (held : Text) (befor
   done_is : s.events ≡ after.done
   done_is = after.split ∙ all_done after.done after.rest (after.place ∙ ap length after.split)
 
-  pub behind_the_last : StandsBehind s w
-  behind_the_last = record {
-    stands = subst (λ es. Stands s.config (account_of_latest s.config es) w.world) (sym done_is) after.stands;
-    line = after.line ∙ ap last_line (sym done_is);
-    unspent = after.unspent;
-  }
+  pub behind_the_last : StandsBehind s.config s.events w
+  behind_the_last = subst (λ es. StandsBehind s.config es w) (sym done_is) after.behind
 
   -- the text of all events and the history are the transcript
   whole : text_of_events s after.done ++ history_text w.world.history ≡ transcript s
@@ -221,7 +202,7 @@ module _ (s : Schedule) (served : IsServed s) (w : Running) (held : Text) (befor
   whole =
       let a : Account = account_of_latest s.config after.done in
       append_assoc s.header (flat_map line_text a.lines) (history_text w.world.history)
-      ∙ ap (λ (h : List Entry). s.header ++ (flat_map line_text a.lines ++ history_text h)) after.stands.history
+      ∙ ap (λ (h : List Entry). s.header ++ (flat_map line_text a.lines ++ history_text h)) after.behind.stands.history
       ∙ ap (λ (t : Text). s.header ++ t) (sym (account_text_is a))
       ∙ ap (λ es. s.header ++ account_text (account_of_latest s.config es)) (sym done_is)
       ∙ sym (transcript_by_latest s served)

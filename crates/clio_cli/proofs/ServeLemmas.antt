@@ -10,12 +10,16 @@ use Rattle.cl_types.specs.declared.config.Field.{Field}
 use Rattle.cl_types.specs.declared.config.Field.TheVariants as field
 use Rattle.cl_types.specs.declared.config.NodeConfig.{NodeConfig}
 use Rattle.cl_types.specs.declared.schedule.Schedule.{Schedule}
+use Rattle.flat_model.specs.Events.{keep_all}
 use Rattle.flat_model.specs.Opening.{if_none_bad, open_fault, room_fault}
 use Rattle.flat_model.specs.declared.open_fault.OpenFault.{OpenFault}
 use Rattle.flat_model.specs.Text.{Text}
 use Rattle.flat_model.specs.Texts.{transcript}
+use Rattle.account_laws.proofs.AddsUp.{summaries_add_up}
 use Rattle.account_laws.proofs.ReadSchedules.{schedules_are_good}
 use Rattle.account_laws.proofs.SameParts.{and_left}
+use Rattle.account_laws.proofs.Spelled.{rises_from_zero}
+use Rattle.account_laws.proofs.WindowKept.{one_account}
 use Rattle.world.specs.Running.{Running}
 use Rattle.clio_cli.specs.Replay.{IsServed, Plays}
 use Rattle.clio_cli.specs.Run.{Ends, Outside, Wants, WantsBy}
@@ -80,6 +84,9 @@ module _ (words : List Text) (before after : Outside) (s : Schedule) (w : Runnin
   abbrev good : IsReplayable asks.1.0 s
   good = asks.1.2
 
+  served : IsServed s
+  served = served_of asks.1.0 s good
+
   abbrev v : Verdict
   v = verdict asks.1.0
 
@@ -108,6 +115,8 @@ module _ (words : List Text) (before after : Outside) (s : Schedule) (w : Runnin
     replayable = good;
     printed = added;
     headline = headline_law asks.1.0 s good.spelled;
+    counts = summaries_add_up keep_all s.config s.events served.good.known served.suited.apart;
+    same = one_account s.config s.events served.keeps (rises_from_zero s.events served.good.rising) served.good.typed;
     world = world;
     left = left;
     behind = behind;

@@ -23,7 +23,7 @@ use Rattle.schedule_text.specs.declared.fault.ScheduleFault.TheVariants.{TooLong
 use Rattle.schedule_text.specs.declared.fault.TheConstants.{MOST_BYTES, MOST_LINES}
 use Rattle.account_laws.proofs.Lists.{each_append, each_weaker}
 use Rattle.account_laws.proofs.ReadSchedules.{IsMeasured, IsSaid, no_ok, ok_is, words_say}
-use Rattle.client_core.specs.Valid.{AreApart}
+use Rattle.flat_model.specs.Apart.{AreApart}
 use Rattle.world.specs.Running.{HaveNumbersApart, IsFair}
 use Rattle.clio_cli.specs.Suited.{SchedulesAreSuited}
 

@@ -1,8 +1,7 @@
 -- What every history that is printed keeps.
-use Rattle.std.specs.Prelude.{◌≡◌, ℕ, false, List, [], ◌∷◌, Ok}
+use Rattle.std.specs.Prelude.{◌≡◌, ℕ, List, Ok}
 use Rattle.cl_outside.specs.Told.{Added}
 use Rattle.cl_types.specs.declared.config.Config.{Config}
-use Rattle.cl_types.specs.declared.schedule.Event.{Event}
 use Rattle.cl_types.specs.declared.schedule.Schedule.{Schedule}
 use Rattle.flat_model.specs.Account.{Account}
 use Rattle.flat_model.specs.Events.{account, account_of_latest}
@@ -10,11 +9,12 @@ use Rattle.flat_model.specs.Grammar.{schedule_of}
 use Rattle.flat_model.specs.Properties.{Once, Ordered, Peeks, Stands}
 use Rattle.flat_model.specs.Run.{IsRun}
 use Rattle.flat_model.specs.Texts.{transcript}
+use Rattle.account_laws.specs.Ends.{AddsUp}
 use Rattle.account_laws.specs.Times.{AreOfAge}
 use Rattle.clio_cli.specs.Run.{IsInput, Outside}
 use Rattle.clio_cli.specs.Status.{number_of}
 use Rattle.clio_cli.specs.Verdict.{IsReplayable}
-use Rattle.world.specs.Follows.{Stands as StandsFor}
+use Rattle.world.specs.Follows.{StandsBehind}
 use Rattle.world.specs.Running.{Running}
 use Rattle.clio_cli.specs.declared.left.Left.{Left}
 use Rattle.clio_cli.specs.declared.left.Left.TheVariants as left
@@ -39,18 +39,6 @@ pub record Headline (config : Config) (a : Account) : Type 0 where
 abbrev pub LawOfHeadline : Type 0
 LawOfHeadline = (bytes : List ℕ) (s : Schedule) → schedule_of bytes ≡ Ok s → Headline s.config (account s.config s.events)
 
--- the line of the last of these events, 0 where there is none
-abbrev pub last_line : List (ℕ × Event) → ℕ
-last_line [] = 0
-last_line (e ∷ []) = e.0
-last_line (e ∷ f ∷ events) = last_line (f ∷ events)
-
--- the world stands for the schedule's events, behind the last of them, and goes on
-pub record StandsBehind (s : Schedule) (w : Running) : Type 0 where
-  pub stands : StandsFor s.config (account_of_latest s.config s.events) w.world
-  pub line : w.line ≡ last_line s.events
-  pub unspent : w.spent ≡ false
-
 -- the transcript of the schedule that the input spells was written, whole, the account that it tells keeps the headline, and
 -- the world that is left stands behind the schedule's events
 pub record Replays (before after : Outside) (kept : Left) : Type 0 where
@@ -60,9 +48,13 @@ pub record Replays (before after : Outside) (kept : Left) : Type 0 where
   pub replayable : IsReplayable bytes schedule
   pub printed : Added (transcript schedule) before.written after.written
   pub headline : Headline schedule.config (account schedule.config schedule.events)
+  -- as many calls were issued as are done, refused, timed out and unended together
+  pub counts : AddsUp schedule.config (account schedule.config schedule.events)
+  -- it is the account off which the world is read, whose node keeps its latest records alone
+  pub same : account schedule.config schedule.events ≡ account_of_latest schedule.config schedule.events
   pub world : Running
   pub left : kept ≡ left.Replayed world
-  pub behind : StandsBehind schedule world
+  pub behind : StandsBehind schedule.config schedule.events world
 
 -- with the status of success this came about
 abbrev pub EndsInHeadline : Outside → Outside → Left → ℕ → Type 0

@@ -1,9 +1,8 @@
 -- The loop over the events of a schedule. No public clause cites this module.
-use Rattle.std.specs.Prelude.{◌≡◌, ℕ, ◌+◌, ◌≤◌, false, List, [], ◌∷◌, ◌++◌, Option, codes, decimal, flat_map, length}
+use Rattle.std.specs.Prelude.{◌≡◌, ℕ, ◌+◌, ◌≤◌, List, [], ◌∷◌, ◌++◌, Option, codes, decimal, flat_map, length}
 use Rattle.cl_outside.specs.Counts.{Rose}
 use Rattle.cl_outside.specs.Loops.{WroteFront}
 use Rattle.cl_outside.specs.Told.{Added}
-use Rattle.cl_types.specs.declared.config.Config.{Config}
 use Rattle.cl_types.specs.declared.line.Entry.{Entry}
 use Rattle.cl_types.specs.declared.schedule.Event.{Event}
 use Rattle.cl_types.specs.declared.schedule.Schedule.{Schedule}
@@ -12,20 +11,15 @@ use Rattle.flat_model.specs.Text.{Text, line_of}
 use Rattle.flat_model.specs.Texts.{entry_text, line_text, numbered_text, transcript}
 use Rattle.account_laws.specs.ReadSchedules.{IsGood}
 use Rattle.account_laws.specs.Schedules.{IsRisingFrom}
-use Rattle.world.specs.Follows.{Stands, new_world}
+use Rattle.world.specs.Follows.{StandsBehind}
 use Rattle.world.specs.Running.{Running}
 use Rattle.world.specs.Worlds.{Stepped, World, step}
 use Rattle.clio_cli.specs.Gathered.{Gathered}
-use Rattle.clio_cli.specs.Headline.{StandsBehind, last_line}
 use Rattle.clio_cli.specs.Suited.{IsSuited}
 use Rattle.clio_cli.specs.declared.left.Left.{Left}
 use Rattle.clio_cli.specs.declared.left.Left.TheVariants as left
 use Rattle.clio_cli.specs.declared.status.Status.{Status}
 use Rattle.clio_cli.specs.declared.status.Status.TheVariants as status
-
--- the world of a configuration at its opening
-abbrev pub opened : Config → Running
-opened config = record { world = new_world config; line = 0; spent = false }
 
 -- the line that a step of a world tells
 abbrev pub step_text : ℕ → Stepped → Text
@@ -53,7 +47,7 @@ pub record IsServed (s : Schedule) : Type 0 where
   pub suited : IsSuited s
   pub keeps : 1 ≤ s.config.node.retry
 
--- after i of the events: the world stands for them, and of their text all but what is held was written
+-- after i of the events: the world stands behind them, and of their text all but what is held was written
 pub record After (s : Schedule) (i : ℕ) (w : Running) (held : Text) (before now : Option (List ℕ)) : Type 0 where
   pub done : List (ℕ × Event)
   pub rest : List (ℕ × Event)
@@ -61,17 +55,15 @@ pub record After (s : Schedule) (i : ℕ) (w : Running) (held : Text) (before no
   pub place : length done ≡ i
   pub late : i ≤ w.line
   pub rising : IsRisingFrom (w.line + 1) rest
-  pub stands : Stands s.config (account_of_latest s.config done) w.world
-  pub line : w.line ≡ last_line done
-  pub unspent : w.spent ≡ false
+  pub behind : StandsBehind s.config done w
   pub gathered : Gathered (text_of_events s done) held before now
 
--- how a replay ends, by what the sink was given and its count of faults: whole with the world that stands for the events, or
+-- how a replay ends, by what the sink was given and its count of faults: whole with the world that stands behind the events, or
 -- cut, and then nothing is left
 abbrev pub Plays : Schedule → (before after : Option (List ℕ)) → (faults faults_after : ℕ) → Left → Status → Type 0
 Plays s before after faults faults_after kept status.Ok =
     Added (transcript s) before after × (faults_after ≡ faults)
-    × (w : Running) × (kept ≡ left.Replayed w) × StandsBehind s w
+    × (w : Running) × (kept ≡ left.Replayed w) × StandsBehind s.config s.events w
 Plays s before after faults faults_after kept status.WriteFault = WroteFront (transcript s) before after × Rose faults faults_after × (kept ≡ left.Nothing)
 Plays s before after faults faults_after kept status.NoMemory = WroteFront (transcript s) before after × (faults_after ≡ faults) × (kept ≡ left.Nothing)
 Plays s before after faults faults_after kept other = ⊥

@@ -6,8 +6,8 @@ use Rattle.flat_model.specs.Commands.{command_in}
 use Rattle.flat_model.specs.Text.{Text}
 use Rattle.flat_model.specs.Opening.{open_fault}
 use Rattle.flat_model.specs.declared.open_fault.OpenFault.{OpenFault}
+use Rattle.world.specs.Follows.{opened}
 use Rattle.clio_cli.specs.Headline.{Replays}
-use Rattle.clio_cli.specs.Replay.{opened}
 use Rattle.clio_cli.specs.Run.{IsInput, Outside, Wants, WantsBy}
 use Rattle.clio_cli.specs.Verdict.{Verdict, IsRefusal, IsReplayable, verdict, verdict_at_opening}
 use Rattle.clio_cli.specs.Words.{is_built_command}

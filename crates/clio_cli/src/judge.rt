@@ -3,8 +3,8 @@
 ghost use Rattle.std.specs.Prelude.{◌≡◌, Ok, Err, Some, None, IfErr, IfOk};
 ghost use Rattle.flat_model.specs.Grammar.{schedule_of};
 ghost use Rattle.flat_model.specs.Opening.{open_fault};
+ghost use Rattle.world.specs.Follows.{opened};
 ghost use Rattle.world.specs.Running.{HaveNumbersApart};
-ghost use Rattle.clio_cli.specs.Replay.{opened};
 ghost use Rattle.clio_cli.specs.Verdict.{Verdict, too_long_text, verdict_at_opening, verdict_on_schedule};
 ghost use Rattle.clio_cli.specs.Wanted.{IsAsked, IsOpened, Refuses};
 

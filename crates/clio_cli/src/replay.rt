@@ -4,11 +4,11 @@ ghost use Rattle.std.specs.Prelude.{◌≡◌, ◌++◌, ◌∷◌, ◌^◌, ◌
 ghost use Rattle.cl_outside.specs.Loops.{WroteFront};
 ghost use Rattle.cl_outside.specs.Told.{Added};
 ghost use Rattle.flat_model.specs.Texts.{entry_text, transcript};
-ghost use Rattle.world.specs.Running.{IsFair};
+ghost use Rattle.world.specs.Follows.{StandsBehind, opened};
+ghost use Rattle.world.specs.Running.{IsFair, summed_on};
 ghost use Rattle.world.specs.Worlds.{step};
 ghost use Rattle.clio_cli.specs.Gathered.{CountsCut, Gathered};
-ghost use Rattle.clio_cli.specs.Headline.{StandsBehind};
-ghost use Rattle.clio_cli.specs.Replay.{After, IsServed, Plays, end_text, event_text, history_text, opened};
+ghost use Rattle.clio_cli.specs.Replay.{After, IsServed, Plays, end_text, event_text, history_text};
 
 use crate::gather::{Cut, let_go, pass_on};
 use crate::left::Left;
@@ -37,6 +37,8 @@ fn happen(
         (held.new ≡ held.old ++ event_text world.old.world number event.now) }
     ensures world { OnOk result
         (world.new.world ≡ (step world.old.world number event.now).world) }
+    ensures summary { OnOk result (world.new.summary
+        ≡ summed_on (step world.old.world number event.now) world.old.summary) }
     ensures line { OnOk result (world.new.line ≡ number) }
     ensures unspent { OnOk result (world.new.spent ≡ false) }
 {
@@ -61,6 +63,8 @@ fn print_event<K: Sink>(
         (K.written sink.old) (K.written sink.new)) }
     ensures world { OnOk result
         (world.new.world ≡ (step world.old.world number event.now).world) }
+    ensures summary { OnOk result (world.new.summary
+        ≡ summed_on (step world.old.world number event.now) world.old.summary) }
     ensures line { OnOk result (world.new.line ≡ number) }
     ensures unspent { OnOk result (world.new.spent ≡ false) }
     ensures front { OnErr result (WroteFront
@@ -184,7 +188,8 @@ fn write_transcript<K: Sink>(
     requires opened { world.old ≡ opened schedule.now.config }
     ensures printed { OnOk result
         (Added (transcript schedule.now) (K.written sink.old) (K.written sink.new)) }
-    ensures behind { OnOk result (StandsBehind schedule.now world.new) }
+    ensures behind { OnOk result
+        (StandsBehind schedule.now.config schedule.now.events world.new) }
     ensures front { OnErr result
         (WroteFront (transcript schedule.now) (K.written sink.old) (K.written sink.new)) }
     ensures counted { CountsCut (K.faults sink.old) (K.faults sink.new) result }

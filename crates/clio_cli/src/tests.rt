@@ -4,6 +4,7 @@
 use crate::{Left, Words, run};
 use cl_outside::{MemorySink, MemorySource};
 use cl_types::items::NoMemory;
+use cl_types::line::Summary;
 use cl_types::numbers::ClientNo;
 use std::alloc::Global;
 use std::test::Fail;
@@ -56,15 +57,25 @@ fn run_on(
     })
 }
 
-// What is shown of the world that is left: pages taken, replies kept, calls issued by client 1, and
-// entries of the history.
-fn shown(left: &Left) -> Option<(u32, u32, u32, usize)> {
+// What is shown of the world that is left: pages taken, replies kept, calls issued by client 1,
+// entries of the history, and what its events came to.
+fn shown(left: &Left) -> Option<(u32, u32, u32, usize, Summary)> {
     let Left::Replayed(world) = left else {
         return None;
     };
-    let issued = world.client(ClientNo(1))?.issued();
+    if !world.has_client(ClientNo(1)) {
+        return None;
+    }
+    let issued = world.client(ClientNo(1)).issued();
     let node = world.node();
-    Some((node.used(), node.retained(), issued, world.history().len()))
+    let entries = world.history().len();
+    Some((
+        node.used(),
+        node.retained(),
+        issued,
+        entries,
+        world.finish(),
+    ))
 }
 
 #[test]
@@ -72,7 +83,15 @@ fn the_first_path_is_printed_and_its_world_is_left(rt: HostRuntime) -> Result<()
     let ran = run_on(rt.alloc(), &["replay"], PATH, &[], &[])?;
     assert_eq!(rt; ran.status, 0);
     assert_eq!(rt; ran.written.as_slice(), TRANSCRIPT);
-    assert_eq!(rt; shown(&ran.left), Some((1, 2, 3, 3)));
+    let summary = Summary {
+        issued: 3,
+        done: 3,
+        refused: 0,
+        timed_out: 0,
+        unended: 0,
+        entries: 3,
+    };
+    assert_eq!(rt; shown(&ran.left), Some((1, 2, 3, 3, summary)));
     Ok(())
 }
 
@@ -136,7 +155,7 @@ fn each_end_has_its_text_and_status(rt: HostRuntime) -> Result<(), Fail> {
         let ran = run_on(alloc, words, input, reads, writes)?;
         assert_eq!(rt; ran.status, status, "{status}");
         assert_eq!(rt; ran.written.as_slice(), want, "{status}");
-        assert_eq!(rt; shown(&ran.left), None, "{status}");
+        assert!(rt; matches!(ran.left, Left::Nothing), "{status}");
     }
     Ok(())
 }

@@ -1,24 +1,30 @@
 -- The world in which nothing has happened, by its parts.
-use Rattle.std.proofs.Common.{◌≡◌, ℕ, zero, suc, ◌<◌, ◌≤◌, List, [], ◌∷◌, Bool, true, false, cond, Option, Some, None, ◌+◌, ◌++◌, refl, sym, ap, ◌∙◌, subst, map, take, add-one, arith}
-use Rattle.std.specs.Prelude.{Result, Ok, Err, IfErr, MatchOption, find, option_map, slice_get, unwrap_or, ◌==◌, ◌||◌}
+use Rattle.std.proofs.Common.{◌≡◌, ℕ, zero, suc, ◌<◌, ◌≤◌, List, [], ◌∷◌, Bool, true, false, cond, Option, Some, None, ◌+◌, ◌++◌, refl, sym, ap, ◌∙◌, subst, length, map, take, add-one, arith}
+use Rattle.std.specs.Prelude.{Result, Ok, Err, IfErr, MatchOption, find, ◌-◌, option_map, slice_get, unwrap_or, ◌==◌, ◌||◌}
 use Rattle.std.specs.List.{AllByRecursion as Each, list_any}
 use Rattle.std.specs.Map.{keys_of, lookup, values_of}
 use Rattle.std.proofs.lemmas.Bool.Decides.{nat_tests}
+use Rattle.std.proofs.Math.Seq.{drop-nil}
 use Rattle.cl_types.specs.declared.config.Config.{Config}
 use Rattle.cl_types.specs.declared.numbers.ClientNo.{ClientNo}
-use Rattle.client_core.specs.Valid.{AreApart}
+use Rattle.flat_model.specs.Apart.{AreApart}
 use Rattle.flat_model.specs.Client.{ClientState, new_client, same_client}
 use Rattle.flat_model.specs.Nodes.{opening_node}
+use Rattle.flat_model.specs.Account.{nothing_yet}
+use Rattle.flat_model.specs.State.{opening}
+use Rattle.account_laws.specs.NodeLines.{node_at, record_at}
+use Rattle.cl_types.specs.declared.line.Entry.{Entry}
 use Rattle.flat_model.specs.declared.open_fault.OpenFault.{OpenFault}
 use Rattle.flat_model.specs.declared.open_fault.OpenFault.TheVariants as fault
 use Rattle.node_core.specs.Keeping.{KeptNode}
 use Rattle.flat_model.specs.Clients.{pid_of}
 use Rattle.world.specs.Fields.{AreSound, IsSound, IsWithin, numbers_of, world_around, world_of}
-use Rattle.world.specs.Follows.{new_world}
+use Rattle.world.specs.Follows.{StandsBehind, new_world, opened}
 use Rattle.world.specs.Running.{HaveNumbersApart, IsFair}
-use Rattle.world.specs.Worlds.{step}
+use Rattle.world.specs.Worlds.{World, step}
 use Rattle.world.specs.declared.whole.Whole.{Whole}
 use Rattle.cl_types.specs.declared.schedule.Event.{Event}
+use Rattle.world.proofs.Entries.{step_grows}
 use Rattle.world.proofs.Sound.{sound_later, step_sound}
 
 abbrev Given : Type 0
@@ -120,6 +126,7 @@ pub whole_sound : (config : Config) (w : Whole) → HaveNumbersApart config → 
 whole_sound config w apart is last = record {
   world = subst (IsSound 0) (sym is) (begin_sound config apart);
   node = omega (arith, last);
+  entries = let none : length (world_of w).history ≡ 0 = ap (λ (v : World). length v.history) is in omega (arith, none);
 }
 
 -- the parts make the world in which nothing has happened
@@ -133,6 +140,17 @@ begun config n apart is = λ i. record {
   history = [];
 }
 
+-- it stands behind no event
+pub behind_none : (config : Config) → StandsBehind config [] (opened config)
+behind_none config = record {
+  stands = record { moment = refl; node = node_opens; clients = refl; frames = refl; handed_out = refl; notes = tt; history = refl };
+  summary = refl;
+  line = refl;
+  unspent = refl;
+} where
+  node_opens : opening_node config.node ≡ node_at config nothing_yet
+  node_opens = ap (λ (entries : List Entry). record { flat = opening config.node; records = map (record_at nothing_yet) entries; retry = config.node.retry }) (sym (drop-nil (0 - config.node.retry)))
+
 -- a fault of the node is told, and want of memory behind it
 pub faulted : {A B : Type 0} (o : Option OpenFault) (node : A) (told : Result A OpenFault) (r : Result B OpenFault) → told ≡ Ok node
     → MatchOption o (IfErr told (λ f. f ≡ fault.NoMemory)) (λ f. told ≡ Err f) → IfErr r (λ f. f ≡ fault.NoMemory)
@@ -142,10 +160,14 @@ faulted (Some f) node told r is says want = absurd cc
 
 -- ---- from event to event
 pub are_later : (l m : ℕ) (w : Whole) → l ≤ m → AreSound l w → AreSound m w
-are_later l m w more h = record { world = sound_later l m (world_of w) more h.world; node = h.node }
+are_later l m w more h = record { world = sound_later l m (world_of w) more h.world; node = h.node; entries = omega (arith, more, h.entries) }
 
 pub sound_after : (l m : ℕ) (old new : Whole) (e : Event) → l < m → AreSound l old → IsFair e → world_of new ≡ (step (world_of old) m e).world → new.node.last ≤ new.moment → AreSound m new
 sound_after l m old new e more h fair is timely = record {
   world = subst (IsSound m) (sym is) (step_sound l m more (world_of old) h.world e fair);
   node = timely;
+  entries =
+      let grown = step_grows (world_of old) m e in
+      let same : length (world_of new).history ≡ length (step (world_of old) m e).world.history = ap (λ (v : World). length v.history) is in
+      omega (arith, h.entries, more, grown, same);
 }

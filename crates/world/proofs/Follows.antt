@@ -131,7 +131,7 @@ note_of_frame a notes zero f h is = absurd (none_some f is)
 note_of_frame a notes (suc k) f h is = note_there a.frames notes k f h is
 
 -- ---- the account grows
-from_append : (keep : List Entry → List Entry) (config : Config) (a : Account) (es : List (ℕ × Event)) (e : ℕ × Event) → account_from keep config a (es ++ e ∷ []) ≡ next_account keep config (account_from keep config a es) e
+pub from_append : (keep : List Entry → List Entry) (config : Config) (a : Account) (es : List (ℕ × Event)) (e : ℕ × Event) → account_from keep config a (es ++ e ∷ []) ≡ next_account keep config (account_from keep config a es) e
 from_append keep config a [] e = refl
 from_append keep config a (x ∷ es) e = from_append keep config (next_account keep config a x) es e
 

@@ -10,5 +10,7 @@ pub mod Results
 pub mod StepLemmas
 pub mod HistoryLemmas
 pub mod Sound
+pub mod Entries
+pub mod SummaryLemmas
 pub mod Beginning
 pub mod Standing

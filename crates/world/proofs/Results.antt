@@ -12,3 +12,7 @@ on_ok_from P Q R (Err e) f h k = tt
 pub if_ok_two : {A E : Type 0} (P Q R : A → Type 0) (r : Result A E) → ((x : A) → P x → Q x → R x) → IfOk r P → IfOk r Q → IfOk r R
 if_ok_two P Q R (Ok x) f h k = f x h k
 if_ok_two P Q R (Err e) f h k = tt
+
+pub on_ok_always : {A E Q : Type 0} (r : Result A E) → Q → OnOk r Q
+on_ok_always (Ok x) q = q
+on_ok_always (Err e) q = tt

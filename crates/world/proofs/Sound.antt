@@ -17,7 +17,7 @@ use Rattle.cl_types.specs.declared.reply.Part.{Part}
 use Rattle.cl_types.specs.declared.request.Request.{Request}
 use Rattle.cl_types.specs.declared.schedule.Event.{Event}
 use Rattle.cl_types.specs.declared.schedule.Event.TheVariants as event
-use Rattle.client_core.specs.Valid.{AreApart}
+use Rattle.flat_model.specs.Apart.{AreApart}
 use Rattle.flat_model.specs.Client.{ClientState, Polled, GivesUp, EndsFence, Sends, Idles, after_issue, after_poll, after_reply, handed_out, poll, same_client}
 use Rattle.flat_model.specs.Clients.{call_of}
 use Rattle.flat_model.specs.Frames.{Item, head_in, request_fault, request_in}
@@ -49,7 +49,7 @@ each_changed P new (s ∷ clients) h p = (go (same_client new.client s.client), 
   go true = p
   go false = h.0
 
-each_found : (P : ClientState → Type 0) (clients : List ClientState) (c : ClientNo) (s : ClientState) → Each P clients → client_in clients c ≡ Some s → P s
+pub each_found : (P : ClientState → Type 0) (clients : List ClientState) (c : ClientNo) (s : ClientState) → Each P clients → client_in clients c ≡ Some s → P s
 each_found P [] c s h is = absurd cc
 each_found P (x ∷ clients) c s h is = go (same_client c x.client) is (each_found P clients c s h.1) where
   go : (b : Bool) → cond b (Some x) (client_in clients c) ≡ Some s → (client_in clients c ≡ Some s → P s) → P s

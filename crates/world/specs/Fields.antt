@@ -5,7 +5,7 @@ use Rattle.cl_types.specs.declared.numbers.ClientNo.{ClientNo}
 use Rattle.flat_model.specs.Client.{ClientState, new_client}
 use Rattle.flat_model.specs.Nodes.{Node}
 use Rattle.flat_model.specs.Properties.{IsInOrder}
-use Rattle.client_core.specs.Valid.{AreApart}
+use Rattle.flat_model.specs.Apart.{AreApart}
 use Rattle.indexmap.specs.IndexMap.{IndexMap, keys, values}
 use Rattle.world.specs.declared.whole.Whole.{Whole}
 use Rattle.world.specs.Worlds.{World}
@@ -60,6 +60,8 @@ pub record IsSound (l : ℕ) (w : World) : Type 0 where
 pub record AreSound (l : ℕ) (w : Whole) : Type 0 where
   pub world : IsSound l (world_of w)
   pub node : w.node.last ≤ w.moment
+  -- an event makes at most one entry
+  pub entries : length w.history.items ≤ l
 
 -- all numbers of a world are as small as they are after the last line that a schedule may have, so that one more event has room
 abbrev pub IsReady : Whole → Type 0

@@ -1,6 +1,7 @@
 -- A world stands for the events of a schedule, and each event leaves it standing.
-use Rattle.std.specs.Prelude.{ℕ, ◌+◌, ◌<◌, ◌≤◌, ◌≡◌, ◌^◌, List, [], ◌∷◌, ◌++◌, length, map, Some, None}
+use Rattle.std.specs.Prelude.{ℕ, ◌+◌, ◌<◌, ◌≤◌, ◌≡◌, ◌^◌, false, List, [], ◌∷◌, ◌++◌, length, map, Some, None}
 use Rattle.cl_types.specs.declared.config.Config.{Config}
+use Rattle.cl_types.specs.declared.line.EventLine.{EventLine}
 use Rattle.cl_types.specs.declared.schedule.Event.{Event}
 use Rattle.link_sim.specs.LinkFrames.{SentFrame}
 use Rattle.flat_model.specs.Account.{Account, Carried, Frame, Load, Asks, Answers, end_of, taken_in_order}
@@ -9,10 +10,13 @@ use Rattle.flat_model.specs.Clients.{client_at, pid_of}
 use Rattle.flat_model.specs.Events.{account_of_latest, effect}
 use Rattle.flat_model.specs.Handling.{latest}
 use Rattle.flat_model.specs.Nodes.{opening_node}
+use Rattle.flat_model.specs.Summaries.{summary_of}
 use Rattle.account_laws.specs.NodeLines.{node_at}
 use Rattle.account_laws.specs.ReadSchedules.{IsGood}
 use Rattle.account_laws.specs.Times.{clock}
 use Rattle.world.specs.declared.note.Note.{Note}
+use Rattle.world.specs.Running.{Running}
+use Rattle.world.specs.Summed.{nothing_counted}
 use Rattle.world.specs.Worlds.{World, Stepped, step}
 
 -- ---- when a world stands for events
@@ -71,3 +75,27 @@ WorldsFollow =
     → 1 ≤ config.node.retry → IsGood config (events ++ (l, event) ∷ []) → length events + 1 < 2 ^ 64
     → Stands config (account_of_latest config events) w
     → StandsOn config events l event (step w l event)
+
+-- ---- a running world
+-- the world of a configuration at its opening
+abbrev pub opened : Config → Running
+opened config = record { world = new_world config; summary = nothing_counted; line = 0; spent = false }
+
+-- the line of the last of these events, 0 where there is none
+abbrev pub last_line : List (ℕ × Event) → ℕ
+last_line [] = 0
+last_line (e ∷ []) = e.0
+last_line (e ∷ f ∷ events) = last_line (f ∷ events)
+
+-- the world stands behind these events: it is read off their account, its counts are the account's, its line is the last of
+-- theirs, and it isn't spent
+pub record StandsBehind (config : Config) (events : List (ℕ × Event)) (w : Running) : Type 0 where
+  pub stands : Stands config (account_of_latest config events) w.world
+  pub summary : w.summary ≡ summary_of (account_of_latest config events)
+  pub line : w.line ≡ last_line events
+  pub unspent : w.spent ≡ false
+
+-- the line of an event behind these is that of their account
+pub record Tells (config : Config) (events : List (ℕ × Event)) (l : ℕ) (event : Event) (told : EventLine) : Type 0 where
+  pub texts : (effect (latest config.node.retry) config (account_of_latest config events) l event).texts ≡ told.did ∷ []
+  pub ended : (effect (latest config.node.retry) config (account_of_latest config events) l event).ended ≡ told.ended

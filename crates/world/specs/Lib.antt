@@ -3,3 +3,4 @@ pub mod Follows
 pub mod Running
 pub mod Fields
 pub mod Saying
+pub mod Summed

@@ -1,22 +1,29 @@
 -- A running world: what a contract sees of it, and what its calls tell and ask.
-use Rattle.std.specs.Prelude.{ℕ, ◌≤◌, Bool, map}
+use Rattle.std.specs.Prelude.{ℕ, ◌≤◌, Bool, length, map}
 use Rattle.cl_types.specs.declared.config.Config.{Config}
 use Rattle.cl_types.specs.declared.line.EventLine.{EventLine}
+use Rattle.cl_types.specs.declared.line.Summary.{Summary}
 use Rattle.cl_types.specs.declared.schedule.Event.{Event}
 use Rattle.cl_types.specs.declared.schedule.Event.TheVariants as event
-use Rattle.client_core.specs.Valid.{AreApart}
+use Rattle.flat_model.specs.Apart.{AreApart}
 use Rattle.data_path.specs.Access.{IsPiece}
+use Rattle.world.specs.Summed.{summed}
 use Rattle.world.specs.Worlds.{World, Stepped}
 
--- a running world: the world, the line of its latest event, and whether an event has wanted memory and found none
+-- a running world: the world, what its events came to, the line of the latest, and whether one has wanted memory and found none
 pub record Running : Type 0 where
   pub world : World
+  pub summary : Summary
   pub line : ℕ
   pub spent : Bool
 
 -- what an event did, told in its line, and the world after it
 abbrev pub stepped : EventLine → World → Stepped
 stepped told w = record { did = told.did; ended = told.ended; world = w }
+
+-- the counts after a step more
+abbrev pub summed_on : Stepped → Summary → Summary
+summed_on s counts = summed s.did s.ended (length s.world.history) counts
 
 -- no two clients have one number
 abbrev pub HaveNumbersApart : Config → Type 0

@@ -56,7 +56,6 @@ pub enum Said {
 }
 
 /// Hands bytes to the node at the moment `now`, and keeps of them what an entry or a note needs.
-
 pub fn ask(
     alloc: Global,
     node: &mut Node,

@@ -3,7 +3,7 @@
 ghost use Rattle.std.specs.Prelude.{◌≡◌, ◌++◌, [], ◌∷◌, None, Err, IfErr, IfOk, MatchOption, OnOk, map, nat_eq};
 ghost use Rattle.flat_model.specs.Client.{new_client};
 ghost use Rattle.flat_model.specs.Opening.{open_fault};
-ghost use Rattle.client_core.specs.Valid.{AreApart};
+ghost use Rattle.flat_model.specs.Apart.{AreApart};
 ghost use Rattle.indexmap.specs.IndexMap.{get, values};
 ghost use Rattle.world.specs.Fields.{AreKeyed, AreSound, world_around, world_of};
 ghost use Rattle.world.specs.Follows.{new_world};

@@ -1,5 +1,8 @@
 use Rattle.std.proofs.Common.{◌++◌, ◌∙◌, List, ℕ, ap}
 use Rattle.std.proofs.lemmas.Result.{on_ok_weaker}
+use Rattle.world.specs.Running.{summed_on}
+use Rattle.world.specs.Worlds.{Stepped}
+use Rattle.world.proofs.Results.{on_ok_always}
 use Rattle.clio_cli.proofs.ReplayLemmas.{told_good, told_text}
 use Rattle.clio_cli.proofs.replay.happen.Goals as goal
 
@@ -11,3 +14,8 @@ returns-clause-printed c =
     on_ok_weaker c.print_line.result
     (λ printed. printed ∙ ap (λ (text : List ℕ). c.args.held.now ++ text) (told_text c.args.world.now.world c.event.new.self.world c.args.number c.args.event.now c.in_ok-told.told c.in_ok-told.ensures.step))
     c.print_line.ensures.printed
+
+pub returns-clause-summary : goal.returns-clause-summary
+returns-clause-summary c =
+    on_ok_always c.print_line.result
+    (c.in_ok-told.ensures.summary ∙ ap (λ (s : Stepped). summed_on s c.args.world.now.summary) c.in_ok-told.ensures.step)

@@ -25,6 +25,6 @@ loop-number-preserved g c =
     let there = at c.as_slice-number-items.result.now s.events c.loop-number.number-index e c.as_slice-number-items.ensures c.loop-number-item.is c.loop-number-test.true in (
       after_next s c.requires.served c.loop-number.number-index c.loop-number.world c.loop-number.held (g.K.Sink.written c.args.sink.now) (g.K.Sink.written c.loop-number.sink)
           c.loop-number.invariant.0 e there c.print_event.new.world c.print_event.new.held (g.K.Sink.written c.print_event.new.sink)
-          c.in_ok-print_event.ensures.world c.in_ok-print_event.ensures.line c.in_ok-print_event.ensures.unspent c.in_ok-print_event.ensures.printed,
+          c.in_ok-print_event.ensures.world c.in_ok-print_event.ensures.summary c.in_ok-print_event.ensures.line c.in_ok-print_event.ensures.unspent c.in_ok-print_event.ensures.printed,
       c.in_ok-print_event.ensures.counted ∙ c.loop-number.invariant.1,
     )

@@ -15,7 +15,7 @@ print_events-requires-clause-begun g c =
 pub returns-clause-printed : goal.returns-clause-printed
 returns-clause-printed g c =
     let after = c.in_ok-print_events.ensures.done in
-    let same = ap (λ (h : List Entry). c.print_events.new.held ++ history_text h) c.history.ensures in
+    let same = ap (λ (h : List Entry). c.print_events.new.held ++ history_text h) c.history.ensures.entries in
     on_ok_weaker c.print_history.result
     (λ written. all_written c.args.schedule.now c.requires.served c.print_events.new.world c.print_events.new.held (g.K.Sink.written c.args.sink.now) (g.K.Sink.written c.print_events.new.sink) after
     (g.K.Sink.written c.print_history.new.sink) (subst (λ (text : List ℕ). Added text (g.K.Sink.written c.print_events.new.sink) (g.K.Sink.written c.print_history.new.sink)) same written))
@@ -24,7 +24,7 @@ returns-clause-printed g c =
 pub returns-clause-front : goal.returns-clause-front
 returns-clause-front g c =
     let after = c.in_ok-print_events.ensures.done in
-    let same = ap (λ (h : List Entry). c.print_events.new.held ++ history_text h) c.history.ensures in
+    let same = ap (λ (h : List Entry). c.print_events.new.held ++ history_text h) c.history.ensures.entries in
     on_err_weaker c.print_history.result
     (λ front. front_written c.args.schedule.now c.requires.served c.print_events.new.world c.print_events.new.held (g.K.Sink.written c.args.sink.now) (g.K.Sink.written c.print_events.new.sink) after
     (g.K.Sink.written c.print_history.new.sink) (subst (λ (text : List ℕ). WroteFront text (g.K.Sink.written c.print_events.new.sink) (g.K.Sink.written c.print_history.new.sink)) same front))

@@ -1,14 +1,20 @@
 -- The step of the machine is the account's.
-use Rattle.std.proofs.Common.{ℕ, Ok, sym, subst}
-use Rattle.flat_model.specs.Events.{account_of_latest}
+use Rattle.std.proofs.Common.{ℕ, List, Ok, Result, false, length, ap, refl, sym, subst, ◌∙◌}
+use Rattle.cl_types.specs.declared.line.Entry.{Entry}
+use Rattle.cl_types.specs.declared.line.EventLine.{EventLine}
 use Rattle.world.specs.Fields.{world_of}
-use Rattle.world.specs.Follows.{Stands}
+use Rattle.world.specs.Follows.{StandsBehind}
 use Rattle.world.specs.Running.{Running}
-use Rattle.world.proofs.Standing.{stands_on}
+use Rattle.world.specs.Summed.{summed}
+use Rattle.world.proofs.Standing.{behind_on}
 use Rattle.world.proofs.world.World.event.Goals as goal
 
 pub returns-clause-stands : goal.returns-clause-stands
-returns-clause-stands c config events retry good stands =
-    let before = subst (λ (r : Running). Stands config (account_of_latest config events) r.world) (sym c.self.view_is) stands in
-    stands_on {E = ℕ} config events c.args.line c.args.event.now (world_of c.self.inside.whole) (world_of c.happen.new.self) (Ok c.in_ok-told.told) c.requires.few
-    c.in_ok-told.ensures.step retry good before
+returns-clause-stands c config events retry good behind =
+    let inside = c.self.inside in
+    let old : Running = record { world = world_of inside.whole; summary = inside.summary; line = inside.line; spent = inside.spent } in
+    let new : Running = record { world = world_of c.happen.new.self; summary = c.summed-self-inside.result; line = c.args.line; spent = false } in
+    let told : Result EventLine ℕ = Ok c.in_ok-told.told in
+    let counted = c.summed-self-inside.ensures ∙ ap (λ (h : List Entry). summed c.in_ok-told.told.did c.in_ok-told.told.ended (length h) inside.summary) c.as_slice-entries.ensures.value in
+    behind_on config events c.args.line c.args.event.now old new told c.requires.few
+    c.in_ok-told.ensures.step counted refl refl retry good (subst (StandsBehind config events) (sym c.self.view_is) behind)
