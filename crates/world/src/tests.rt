@@ -42,7 +42,7 @@ fn happen(alloc: Global, world: &mut World, line: u32, event: Event) -> Result<E
     world.event(alloc, line, &event)
 }
 
-/// A call of the client goes out, with frame `frame` for its request.
+/// A call of the client is issued, and its first frame goes out.
 fn send(alloc: Global, world: &mut World, line: u32, call: CallText) -> Result<(), NoMemory>
     requires behind { world.old.line < line }
     requires few { line + 1 < 2 ^ 29 }
