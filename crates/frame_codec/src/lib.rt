@@ -23,9 +23,10 @@ mod request_writer;
 mod tests;
 mod views;
 
+pub use crate::headers::HEADER_BYTES;
 pub use crate::reply_reader::read_reply;
 pub use crate::reply_writer::{write_got, write_reply, write_small};
 pub use crate::request_reader::read_request;
-pub use crate::request_writer::write_request;
+pub use crate::request_writer::{kind_of, write_request};
 pub use crate::views::{ReplyView, RequestView};
 pub use cl_types::frame::{BadFrame, FieldName, Head};

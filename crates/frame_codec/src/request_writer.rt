@@ -18,11 +18,11 @@ use cl_types::request::RequestRef;
 // There is room for the longest frame: a header, an address, and the bytes of a part.
 const _: () = prove!(HEADER_BYTES + 4 + PART_BYTES as usize <= FRAME_ROOM);
 
-/// The kind of a request.
-fn kind_of(body: &RequestRef) -> Kind
-    ensures { result ≡ kind_of (request_of body.now) }
+/// The kind of frame that carries a request.
+pub fn kind_of(request: &RequestRef) -> Kind
+    ensures { result ≡ kind_of (request_of request.now) }
 {
-    match *body {
+    match *request {
         RequestRef::Alloc { .. } => Kind::Alloc,
         RequestRef::Free { .. } => Kind::Free,
         RequestRef::Read { .. } => Kind::Read,

@@ -10,11 +10,10 @@ ghost use Rattle.client_core.specs.Valid.{IsValid};
 
 use super::Client;
 use crate::answers::Heard;
-use cl_types::call::Kind;
 use cl_types::numbers::Pid;
 use cl_types::reply::ReplyRef;
 use cl_types::request::RequestRef;
-use frame_codec::{ReplyView, read_reply};
+use frame_codec::{ReplyView, kind_of, read_reply};
 
 impl Client {
     /// Hears bytes: the first that holds of Bad, Other, Late and Unfit, and else the reply is
@@ -62,20 +61,6 @@ fn is_fit(request: &RequestRef, pid: Pid, view: &ReplyView) -> bool
     kind_of(request) == view.kind
         && view.head.pid.number() == pid.number()
         && is_as_long(request, &view.body)
-}
-
-/// The kind of a request.
-fn kind_of(request: &RequestRef) -> Kind
-    ensures { result ≡ kind_of_request (request_of request.now) }
-{
-    match *request {
-        RequestRef::Alloc { .. } => Kind::Alloc,
-        RequestRef::Free { .. } => Kind::Free,
-        RequestRef::Read { .. } => Kind::Read,
-        RequestRef::Write { .. } => Kind::Write,
-        RequestRef::Atomic { .. } => Kind::Atomic,
-        RequestRef::Offload { .. } => Kind::Offload,
-    }
 }
 
 /// Whether the bytes of a reply are as many as the request asks, for an Offload at most as many.
