@@ -8,7 +8,8 @@ use Rattle.cl_types.specs.declared.limits.TheConstants.{PAGE_BYTES}
 use Rattle.cl_types.specs.Bytes.{over, zeros}
 use Rattle.cl_types.specs.Places.{Place, place_cmp}
 use Rattle.hash_buckets.specs.PageMap.{PageMap}
-use Rattle.page_pool.specs.PoolPages.{IsReady}
+use Rattle.page_pool.specs.PoolPages.{PoolPages, IsReady}
+use Rattle.translate_cache.specs.Cached.{Cached}
 use Rattle.flat_model.specs.State.{FlatState, Page, bytes_of, page_at}
 use Rattle.data_path.specs.declared.store.PageStore.{PageStore}
 use Rattle.data_path.specs.Store.{IsWhole, memory_of}
@@ -40,13 +41,15 @@ pub record IsHonest (s : PageStore) (k : ℕ) : Type 0 where
   pub ready : IsReady s.pool
   pub exists : k < length s.spaces
 
--- what a space keeps: which store it stands for, the offload, and all but the offload's bytes
+-- what a space keeps: which store it stands for, the offload, and all of the store but the bytes of the offload's pages
+-- and of the free ones
 pub record RestOf : Type 0 where
   pub reference : GName
   pub offload : ℕ
   pub spaces : List ℕ
-  pub pages : ℕ
   pub table : PageMap
+  pub cache : Cached
+  pub pool : PoolPages
   pub others : List (Place × Page)
 
 -- the rest of an offload's space over a lent store
@@ -55,7 +58,8 @@ rest_of k r = let s = r.now in record {
   reference = r.ghost_name;
   offload = k;
   spaces = s.spaces;
-  pages = s.pool.pages;
   table = s.table;
+  cache = s.cache;
+  pool = s.pool;
   others = where_key place_cmp (λ place. not (place.0 == space_no k)) (memory_of s).map;
 }

@@ -14,7 +14,7 @@ use Rattle.flat_model.specs.Objects.{Object, empty_object}
 use Rattle.flat_model.specs.Opening.{pages_at}
 use Rattle.flat_model.specs.State.{FlatState}
 use Rattle.offload_host.specs.Held.{HoldsEmpty, HoldsObject}
-use Rattle.page_pool.specs.PoolPages.{IsReady}
+use Rattle.page_pool.specs.PoolPages.{PoolPages, IsReady}
 use Rattle.node_core.specs.Stores.{ChangesSpace, IsStore, objects_in, state_in}
 use Rattle.node_core.proofs.Beside.{contents_elsewhere, flat_elsewhere}
 use Rattle.node_core.proofs.ObjectLists.{objects_empty}
@@ -70,7 +70,7 @@ next_begun old s t offloads n is beside whole ready object empty = record {
   objects = each_below (HoldsOne offloads s) (HoldsOne offloads t) n is.objects (λ k. kept offloads s t HoldsObject k n beside) object;
   empty = each_below (HoldsFirst offloads s) (HoldsFirst offloads t) n is.empty (λ k. kept offloads s t HoldsEmpty k n beside) empty;
   rest = λ objects. flat_elsewhere n s t beside objects ∙ is.rest objects;
-  pages = beside.pages ∙ is.pages;
+  pages = ap (λ (pool : PoolPages). pool.pages) beside.pool ∙ is.pages;
 }
 
 -- what holds of each offload there is holds of each number

@@ -90,7 +90,7 @@ module _ (k : ℕ) (s t : PageStore) (beside : ChangesSpace k s t) where
         ranges = where_place of_process (spans_in (beside.table i).entries);
         objects = objects;
         held = held_is i;
-        pages = beside.pages i;
+        pages = (beside.pool i).pages;
         buckets = (beside.table i).buckets;
       }
 

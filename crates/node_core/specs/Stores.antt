@@ -41,10 +41,11 @@ pub record FieldsFit (s : PageStore) (offloads : List OffloadConfig) (pages : �
   pub store : IsStore s offloads
   pub count : s.pool.pages ≡ pages
 
--- the bytes of offload k's pages may change, and nothing else
+-- the bytes of offload k's pages may change, and those of the free pages, and nothing else
 pub record ChangesSpace (k : ℕ) (old new : PageStore) : Type 0 where
   pub spaces : new.spaces ≡ old.spaces
-  pub pages : new.pool.pages ≡ old.pool.pages
   pub table : new.table ≡ old.table
+  pub cache : new.cache ≡ old.cache
+  pub pool : new.pool ≡ old.pool
   pub others : where_key place_cmp (λ place. not (place.0 == space_no k)) (memory_of new).map
       ≡ where_key place_cmp (λ place. not (place.0 == space_no k)) (memory_of old).map

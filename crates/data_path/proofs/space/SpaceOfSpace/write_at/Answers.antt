@@ -20,7 +20,8 @@ returns-clause-rest c =
     let others = other_pages s t c.args.self.now.offload c.args.at c.args.bytes.now c.requires.honest c.requires.within rest (c.put.ensures.memory _ c.offload_frame-frame.ensures) in
     λ i. record (rest_of c.args.self.now.offload c.args.self.now.store) {
       spaces = ap (λ (x : PageStore). x.spaces) rest i;
-      pages = ap (λ (x : PageStore). x.pool.pages) rest i;
       table = ap (λ (x : PageStore). x.table) rest i;
+      cache = ap (λ (x : PageStore). x.cache) rest i;
+      pool = ap (λ (x : PageStore). x.pool) rest i;
       others = others i;
     }
