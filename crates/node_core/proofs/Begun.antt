@@ -35,6 +35,7 @@ pub record IsBegun (old now : PageStore) (offloads : List OffloadConfig) (n : �
   pub empty : (k : ℕ) → k < n → HoldsFirst offloads now k
   pub rest : (objects : List Object) → flat_of objects (memory_of now) ≡ flat_of objects (memory_of old)
   pub pages : now.pool.pages ≡ old.pool.pages
+  pub cache : now.cache ≡ old.cache
 
 pub none_begun : (s : PageStore) (offloads : List OffloadConfig) → IsWhole s → IsReady s.pool → s.spaces ≡ map offload_pages offloads → IsBegun s s offloads 0
 none_begun s offloads whole ready spaces = record {
@@ -45,6 +46,7 @@ none_begun s offloads whole ready spaces = record {
   empty = λ k below. absurd (omega (arith, below));
   rest = λ objects. refl;
   pages = refl;
+  cache = refl;
 }
 
 -- a space that is left keeps what holds of its bytes
@@ -71,6 +73,7 @@ next_begun old s t offloads n is beside whole ready object empty = record {
   empty = each_below (HoldsFirst offloads s) (HoldsFirst offloads t) n is.empty (λ k. kept offloads s t HoldsEmpty k n beside) empty;
   rest = λ objects. flat_elsewhere n s t beside objects ∙ is.rest objects;
   pages = ap (λ (pool : PoolPages). pool.pages) beside.pool ∙ is.pages;
+  cache = beside.cache ∙ is.cache;
 }
 
 -- what holds of each offload there is holds of each number

@@ -8,7 +8,7 @@ ghost use Rattle.cl_types.specs.Requests.{request_of};
 ghost use Rattle.cl_types.specs.declared.limits.TheConstants.{ADDRESS_END, PAGE_BYTES};
 ghost use Rattle.cl_types.specs.declared.reply.Refusal.TheVariants.{NoMapping};
 ghost use Rattle.data_path.specs.Access.{IsPiece};
-ghost use Rattle.data_path.specs.Store.{IsWhole, flat_of, memory_of};
+ghost use Rattle.data_path.specs.Store.{IsWhole, flat_of, memory_of, no_entries};
 ghost use Rattle.flat_model.specs.Opening.{open_fault};
 ghost use Rattle.flat_model.specs.Pages.{offset_of, page_of};
 ghost use Rattle.flat_model.specs.State.{bytes_of, opening, page_at, used};
@@ -65,6 +65,7 @@ impl Memory {
     /// without room, is told whether there is memory or not.
     pub fn create(alloc: Global, config: &NodeConfig) -> Result<Memory, OpenFault>
         ensures opened { IfOk result (λ memory. memory.flat ≡ opening config.now) }
+        ensures cache { IfOk result (λ memory. memory.cache ≡ no_entries) }
         ensures good { IfOk result (λ memory. bad_number_of config.now ≡ None) }
         ensures fault { MatchOption (open_fault config.now)
             (IfErr result (λ fault. fault ≡ OpenFault.NoMemory)) (λ fault. result ≡ Err fault) }

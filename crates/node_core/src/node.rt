@@ -4,7 +4,7 @@ ghost use Rattle.std.specs.Prelude.{◌≡◌, ◌+◌, ◌≤◌, true, Err, If
 ghost use Rattle.cl_types.specs.Bytes.{bytes_at};
 ghost use Rattle.cl_types.specs.declared.reply.Refusal.TheVariants.{NoMapping};
 ghost use Rattle.data_path.specs.Access.{IsPiece};
-ghost use Rattle.data_path.specs.Store.{IsWhole, flat_of, memory_of};
+ghost use Rattle.data_path.specs.Store.{IsWhole, flat_of, memory_of, no_entries};
 ghost use Rattle.flat_model.specs.Frames.{head_in, request_in};
 ghost use Rattle.flat_model.specs.Handling.{latest};
 ghost use Rattle.flat_model.specs.Nodes.{node_answer, node_given, opening_node};
@@ -52,7 +52,7 @@ impl Node {
         ensures opened { IfOk result (λ node. node ≡ record {
           node = opening_node config.now;
           last = 0;
-          cache = node.cache;
+          cache = no_entries;
         }) }
         ensures fault { MatchOption (open_fault config.now)
             (IfErr result (λ fault. fault ≡ OpenFault.NoMemory)) (λ fault. result ≡ Err fault) }

@@ -52,6 +52,7 @@ pub fn init_spaces(store: &mut PageStore, host: &Host)
     ensures rest { (objects : List Object) →
         flat_of objects (memory_of store.new) ≡ flat_of objects (memory_of store.old) }
     ensures pages { store.new.pool.pages ≡ store.old.pool.pages }
+    ensures cache { store.new.cache ≡ store.old.cache }
 {
     for no in 0..host.count() {
         init_space(store, host, no);

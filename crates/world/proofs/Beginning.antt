@@ -17,6 +17,7 @@ use Rattle.cl_types.specs.declared.line.Entry.{Entry}
 use Rattle.flat_model.specs.declared.open_fault.OpenFault.{OpenFault}
 use Rattle.flat_model.specs.declared.open_fault.OpenFault.TheVariants as fault
 use Rattle.node_core.specs.Keeping.{KeptNode}
+use Rattle.data_path.specs.Store.{no_entries}
 use Rattle.flat_model.specs.Clients.{pid_of}
 use Rattle.world.specs.Fields.{AreSound, IsSound, IsWithin, numbers_of, world_around, world_of}
 use Rattle.world.specs.Follows.{StandsBehind, new_world, opened}
@@ -130,7 +131,7 @@ whole_sound config w apart is last = record {
 }
 
 -- the parts make the world in which nothing has happened
-pub begun : (config : Config) (n : KeptNode) → HaveNumbersApart config → n ≡ record { node = opening_node config.node; last = 0; cache = n.cache } → world_around n.node config.clients ≡ new_world config
+pub begun : (config : Config) (n : KeptNode) → HaveNumbersApart config → n ≡ record { node = opening_node config.node; last = 0; cache = no_entries } → world_around n.node config.clients ≡ new_world config
 begun config n apart is = λ i. record {
   moment = 0;
   node = (is i).node;

@@ -29,3 +29,6 @@ returns-clause-opened c =
     let here : c.in_ok-host.host ≡ c.args.config.now.offloads = c.in_ok-host.ensures in
     opening_begun c.in_ok-store.store c.init_spaces.new.store c.in_ok-host.host (opening c.args.config.now)
     (ap (λ offloads. flat_of (map empty_object offloads) (memory_of c.in_ok-store.store)) here ∙ c.in_ok-store.ensures.opened) c.init_spaces.ensures.rest c.init_spaces.ensures.empty
+
+pub returns-clause-cache : goal.returns-clause-cache
+returns-clause-cache c = c.init_spaces.ensures.cache ∙ c.in_ok-store.ensures.cache
