@@ -1,5 +1,5 @@
 -- Pages that are mapped one behind the other, each with the next frame.
-use Rattle.std.proofs.Common.{◌≡◌, ◌≢◌, ℕ, zero, suc, ◌+◌, ◌-◌, ◌<◌, ◌≤◌, ◌==◌, if◌then◌else◌, Bool, true, false, cond, inl, inr, is_some, List, [], ◌∷◌, ◌++◌, length, length-append, append_assoc, append-nil, replicate, min, Some, None, refl, sym, ap, ◌∙◌, subst, arith}
+use Rattle.std.proofs.Common.{◌≡◌, ◌≢◌, ℕ, zero, suc, ◌+◌, ◌-◌, ◌<◌, ◌≤◌, ◌==◌, nat_lt, if◌then◌else◌, Bool, true, false, cond, inl, inr, is_some, List, [], ◌∷◌, ◌++◌, length, length-append, append_assoc, append-nil, replicate, min, Some, None, refl, sym, ap, ◌∙◌, subst, arith}
 use Rattle.std.specs.Cmp.{nat_cmp_is}
 use Rattle.std.specs.List.{range_with_len}
 use Rattle.std.specs.Ordering.{nat_cmp, ordering_then, is_eq}
@@ -19,7 +19,7 @@ use Rattle.cl_types.proofs.PlaceLemmas.{split_place}
 use Rattle.hash_buckets.specs.PageMap.{PageMap, entry_of, with_entry, load, IsValid}
 use Rattle.index_lists.specs.NodeLists.{has}
 use Rattle.page_arena.specs.Arena.{page_at, zero_page}
-use Rattle.page_pool.specs.PoolPages.{PoolPages, free_list, free_pages, AreZero, IsPartition, IsReady}
+use Rattle.page_pool.specs.PoolPages.{PoolPages, free_list, free_pages, moved, AreZero, IsPartition, IsReady}
 use Rattle.page_pool.proofs.Zeros.{AreZero-new}
 use Rattle.flat_model.specs.Rows.{keys, AreFourAtMost}
 use Rattle.flat_model.specs.State.{places_of}
@@ -166,6 +166,16 @@ put_behind place pte (e ∷ es) behind =
     ap (λ o. by_order o ((place, pte) ∷ e ∷ es) ((e.0, pte) ∷ es) (e ∷ put place_cmp place pte es)) behind.0 ∙ ap (λ l. e ∷ l) (put_behind place pte es behind.1)
 
 -- ---- one page more
+-- a refill leaves the room of the ring
+pub capacity_stays : (pool : PoolPages) → (moved pool).capacity ≡ pool.capacity
+capacity_stays pool = either (nat_lt (length pool.ring) pool.capacity) refl pool.clean pool.dirty
+  where
+    either : (space : Bool) → nat_lt (length pool.ring) pool.capacity ≡ space → (clean dirty : List ℕ) → (moved (record pool { clean = clean; dirty = dirty })).capacity ≡ pool.capacity
+    either true is [] [] = rw is refl
+    either true is [] (page ∷ dirty) = rw is refl
+    either true is (page ∷ clean) dirty = rw is refl
+    either false is clean dirty = rw is refl
+
 -- the pages that aren't taken, where so many have the first frames
 pub has_free : (s : PageStore) → IsLaid s → length s.table.entries < s.pool.pages → 0 < free_pages s.pool
 has_free s laid less =

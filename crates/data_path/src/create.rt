@@ -67,6 +67,7 @@ impl PageStore {
         ensures spaces { IfOk result (λ store. store.spaces ≡ map offload_pages config.now.offloads) }
         ensures memory { IfOk result (λ store. memory_of store ≡ opened_memory config.now) }
         ensures cache { IfOk result (λ store. store.cache ≡ no_entries) }
+        ensures ring { IfOk result (λ store. store.pool.capacity ≡ config.now.ring) }
         ensures opened { IfOk result (λ store. flat_of (map empty_object config.now.offloads) (memory_of store)
             ≡ opening config.now) }
         ensures whole { IfOk result IsWhole }
@@ -104,6 +105,7 @@ impl PageStore {
         ensures entries { IfOk result (λ store. store.table.entries ≡ []) }
         ensures buckets { IfOk result (λ store. store.table.buckets ≡ buckets) }
         ensures pages { IfOk result (λ store. store.pool.pages ≡ pages) }
+        ensures capacity { IfOk result (λ store. store.pool.capacity ≡ ring) }
         ensures spaces { IfOk result (λ store. store.spaces ≡ []) }
     {
         let table = Table::create(alloc, buckets)?;
@@ -134,6 +136,7 @@ impl PageStore {
         ensures spaces { OnOk result (self.new.spaces ≡ self.old.spaces ++ pages ∷ []) }
         ensures buckets { self.new.table.buckets ≡ self.old.table.buckets }
         ensures pages { self.new.pool.pages ≡ self.old.pool.pages }
+        ensures capacity { self.new.pool.capacity ≡ self.old.pool.capacity }
     {
         let space = Space16(LAST_PID + 1 + self.spaces.as_slice().len() as u16);
         for i in 0..pages {
@@ -154,6 +157,7 @@ impl PageStore {
             ≡ rows_of self.old.table.entries ++ ((space.0, vpn.0), span) ∷ [] }
         ensures buckets { self.new.table.buckets ≡ self.old.table.buckets }
         ensures pages { self.new.pool.pages ≡ self.old.pool.pages }
+        ensures capacity { self.new.pool.capacity ≡ self.old.pool.capacity }
         ensures spaces { self.new.spaces ≡ self.old.spaces }
     {
         let frame = self.take_frame::<Brand>(Blank::new(1));
@@ -177,6 +181,7 @@ impl PageStore {
         ensures rest { self.new ≡ record self.old { pool = self.new.pool; arena = self.new.arena } }
         ensures free { free_list self.old.pool ≡ result.0 ∷ free_list self.new.pool }
         ensures pages { self.new.pool.pages ≡ self.old.pool.pages }
+        ensures capacity { self.new.pool.capacity ≡ self.old.pool.capacity }
         ensures ready { IsReady self.new.pool }
         ensures arena { length self.new.arena ≡ length self.old.arena }
         ensures zero { AreZero self.new.arena (self.new.pool.ring ++ self.new.pool.clean) }

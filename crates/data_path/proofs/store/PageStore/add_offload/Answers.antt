@@ -28,6 +28,7 @@ loop-i-preserved c =
       there = before.there;
       buckets = c.add_page.ensures.buckets ∙ before.buckets;
       pages = c.add_page.ensures.pages ∙ before.pages;
+      capacity = c.add_page.ensures.capacity ∙ before.capacity;
       spaces = c.add_page.ensures.spaces ∙ before.spaces;
     }
 

@@ -11,5 +11,6 @@ invariant-loop-i l = record {
   there : l.space.0 ≡ 65280 + length l.fn.self.spaces;
   buckets : l.self.table.buckets ≡ l.fn.self.table.buckets;
   pages : l.self.pool.pages ≡ l.fn.self.pool.pages;
+  capacity : l.self.pool.capacity ≡ l.fn.self.pool.capacity;
   spaces : l.self.spaces ≡ l.fn.self.spaces;
 }

@@ -54,6 +54,7 @@ loop-offload-preserved c =
           c.loop-offload.store.spaces before.spaces c.pages_of.ensures;
       buckets = added.buckets ∙ before.buckets;
       pages = added.pages ∙ before.pages;
+      ring = added.capacity ∙ before.ring;
     }
 
 pub returns-clause-memory : goal.returns-clause-memory

@@ -11,4 +11,5 @@ invariant-loop-offload l = record {
   spaces : l.store.spaces ≡ map offload_pages (take l.offload-index l.config.offloads);
   buckets : l.store.table.buckets ≡ l.config.buckets;
   pages : l.store.pool.pages ≡ l.config.pages;
+  ring : l.store.pool.capacity ≡ l.config.ring;
 }

@@ -2,7 +2,12 @@ use Rattle.std.proofs.Common.{◌∙◌, ap}
 use Rattle.index_lists.specs.NodeLists.{has}
 use Rattle.page_pool.specs.PoolPages.{PoolPages}
 use Rattle.data_path.proofs.Framing.{not_dirty, ring_first}
+use Rattle.data_path.proofs.Laying.{capacity_stays}
 use Rattle.data_path.proofs.store.PageStore.take_frame.Goals as goal
+
+pub returns-clause-capacity : goal.returns-clause-capacity
+returns-clause-capacity g c =
+    ap (λ (v : PoolPages). v.capacity) c.refill.ensures.moves ∙ capacity_stays c.take.new.self ∙ ap (λ (v : PoolPages). v.capacity) c.take.ensures.rest
 
 pub returns-clause-zeros : goal.returns-clause-zeros
 returns-clause-zeros g c =
