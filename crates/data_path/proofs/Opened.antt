@@ -30,7 +30,7 @@ use Rattle.range_alloc.proofs.Entries.{frame_in, span_in}
 use Rattle.translate_cache.specs.Cached.{Cached, is_place}
 use Rattle.translate_cache.specs.Cached.{entry_of as cached_entry}
 use Rattle.data_path.specs.declared.store.PageStore.{PageStore}
-use Rattle.data_path.specs.Store.{pages_in, spans_in, backed, empty_memory, held_places, flat_of, memory_of, IsFit, IsWhole}
+use Rattle.data_path.specs.Store.{pages_in, spans_in, backed, held_places, flat_of, memory_of, IsFit, IsWhole}
 use Rattle.data_path.specs.Laying.{Row, rows_of, spanned, rows_from, numbered, IsLaid}
 use Rattle.data_path.specs.Opened.{zeroed_page, ranges_from, opened_memory}
 use Rattle.data_path.proofs.Laying.{entry_for, keys-rows, keys-rows_from, has-range}
@@ -395,16 +395,3 @@ module _ (s : PageStore) (laid : IsLaid s) (rows : rows_of s.table.entries ≡ r
       let ranges_are : spans_in s.table.entries ≡ ranges_from 0 c.offloads =
       ap spans_in entries_are ∙ spans-numbered 0 (rows_from 0 s.spaces) ∙ ap (λ ns. spans_of (rows_from 0 ns)) spaces ∙ spans-rows 0 c.offloads in
       λ i. record (opened_memory c) { map = pages_are i; ranges = ranges_are i; pages = pages i; buckets = buckets i }
-
--- ---- no page is mapped
-pub whole_unmapped : (s : PageStore) → IsLaid s → s.table.entries ≡ [] → s.spaces ≡ [] → IsWhole s
-whole_unmapped s laid none spaces = whole_laid s laid (ap rows_of none ∙ sym (ap (rows_from 0) spaces))
-
-pub memory_unmapped : (s : PageStore) (pages buckets : ℕ) → s.table.entries ≡ [] → s.table.buckets ≡ buckets → s.pool.pages ≡ pages → memory_of s ≡ empty_memory pages buckets
-memory_unmapped s pages buckets none buckets_are pages_are =
-    λ i. record (memory_of s) { map = pages_in s.arena (none i); ranges = spans_in (none i); pages = pages_are i; buckets = buckets_are i }
-
--- of three facts of a value a fourth
-pub if_ok_three : {A E : Type 0} {P Q R S : A → Type 0} (r : Result A E) → ((x : A) → P x → Q x → R x → S x) → IfOk r P → IfOk r Q → IfOk r R → IfOk r S
-if_ok_three (Ok x) all p q r = all x p q r
-if_ok_three (Err e) all p q r = p

@@ -53,10 +53,6 @@ flat_of objects memory = record {
   buckets = memory.buckets;
 }
 
--- the memory of so many pages and buckets in which nothing is mapped
-abbrev pub empty_memory : ℕ → ℕ → FlatState
-empty_memory pages buckets = record { map = []; ranges = []; objects = []; held = []; pages = pages; buckets = buckets }
-
 -- the cache of a store at its opening: no entries, and room for so many
 abbrev pub no_entries : Cached
 no_entries = record { entries = []; capacity = CACHED_ENTRIES }

@@ -54,7 +54,7 @@ fn span_of(before: u16, pages: u16) -> u16
 }
 
 impl PageStore {
-    ghost use Rattle.data_path.specs.Store.{empty_memory, flat_of, held_places, memory_of, no_entries, IsWhole};
+    ghost use Rattle.data_path.specs.Store.{flat_of, held_places, memory_of, no_entries, IsWhole};
     ghost use Rattle.data_path.specs.Opened.{opened_memory};
     ghost use Rattle.data_path.specs.Laying.{rows_from, rows_of, IsBehind, IsLaid};
 
@@ -82,21 +82,7 @@ impl PageStore {
         Ok(store)
     }
 
-    /// A store of so many pages, with no page mapped and no offload. `NoMemory` comes where an allocation was refused.
-    pub fn empty(alloc: Global, pages: u32, buckets: u32, ring: u32) -> Result<PageStore, NoMemory>
-        requires pages { pages ≤ 65536 }
-        requires buckets { IsTrue (is_bucket_count buckets) }
-        requires ring { 1 ≤ ring }
-        ensures empty { IfOk result (λ store. memory_of store ≡ empty_memory pages buckets) }
-        ensures cache { IfOk result (λ store. store.cache ≡ no_entries) }
-        ensures spaces { IfOk result (λ store. store.spaces ≡ []) }
-        ensures whole { IfOk result IsWhole }
-        ensures ready { IfOk result (λ store. IsReady store.pool) }
-    {
-        PageStore::unmapped(alloc, pages, buckets, ring)
-    }
-
-    // The same, with all that is known of its parts.
+    // A store of so many pages, with no page mapped and no offload.
     fn unmapped(alloc: Global, pages: u32, buckets: u32, ring: u32) -> Result<PageStore, NoMemory>
         requires pages { pages ≤ 65536 }
         requires buckets { IsTrue (is_bucket_count buckets) }

@@ -1,18 +1,36 @@
 //! Atomics on one word, one after the other. What is wanted is worked by hand from the rules.
 
-ghost use Rattle.std.specs.Prelude.{◌≡◌, ◌<◌};
+ghost use Rattle.std.specs.Prelude.{◌≡◌, ◌<◌, IfOk};
+ghost use Rattle.data_path.specs.Store.{IsWhole};
+ghost use Rattle.page_pool.specs.PoolPages.{IsReady};
 
 use crate::apply;
 use cl_types::call::{AtomicOp, Perm};
-use cl_types::items::NoMemory;
+use cl_types::config::{NodeConfig, OffloadList};
 use cl_types::numbers::{Addr, Space16};
 use cl_types::reply::Refusal;
 use cl_types::steps::Steps;
 use data_path::PageStore;
+use flat_model::open_fault::OpenFault;
 use std::alloc::Global;
 use std::marker::Brand;
 use std::sync::ledger::{Blank, Ledger};
 use std::test::Fail;
+
+/// The store of a node of 16 pages, with no offload.
+fn opened(alloc: Global) -> Result<PageStore, OpenFault>
+    ensures whole { IfOk result IsWhole }
+    ensures ready { IfOk result (λ store. IsReady store.pool) }
+{
+    let config = NodeConfig {
+        pages: 16,
+        buckets: 8,
+        ring: 4,
+        retry: 4,
+        offloads: OffloadList::create(alloc),
+    };
+    PageStore::create(alloc, &config)
+}
 
 /// Takes a lock twice, adds to it past the greatest word, exchanges the word, clears it, and changes a page that is
 /// write only.
@@ -20,7 +38,7 @@ fn words<A: Ledger, B: Ledger>(
     alloc: Global,
     reads: Blank,
     takes: Blank,
-) -> Result<[Result<u64, Refusal>; 6], NoMemory>
+) -> Result<[Result<u64, Refusal>; 6], OpenFault>
     requires reads_name { reads.name ≡ A.name }
     requires reads_parts { reads.parts ≡ A.parts }
     requires reads_some { 0 < reads.parts }
@@ -30,7 +48,7 @@ fn words<A: Ledger, B: Ledger>(
 {
     let mut reads = Steps::<A>::create(reads);
     let mut takes = Steps::<B>::create(takes);
-    let mut store = PageStore::empty(alloc, 16, 8, 4)?;
+    let mut store = opened(alloc)?;
     let space = Space16(1);
     let _ = store.alloc_range(space, 1, Perm::ReadWrite);
     let _ = store.alloc_range(space, 1, Perm::WriteOnly);
@@ -69,7 +87,10 @@ fn words<A: Ledger, B: Ledger>(
 
 #[test]
 fn each_atomic_gives_the_word_before_it(rt: HostRuntime) -> Result<(), Fail> {
-    let told = words::<Brand, Brand>(rt.alloc(), Blank::new(1), Blank::new(1))?;
+    let (reads, takes) = (Blank::new(1), Blank::new(1));
+    let Ok(told) = words::<Brand, Brand>(rt.alloc(), reads, takes) else {
+        return Err(Fail::new("it does not open"));
+    };
     assert_eq!(rt; told[0], Ok(0));
     assert_eq!(rt; told[1], Ok(1));
     assert_eq!(rt; told[2], Ok(1));
