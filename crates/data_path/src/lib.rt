@@ -6,7 +6,8 @@
 //!
 //! A store is whole where its parts fit, as `IsWhole` lists, and ready where its pool is. Each call needs a whole and
 //! ready store and leaves one. A call on a page's bytes reads at most one bucket, and none where the cache has the
-//! page's entry, and takes at most one page. Only `PageStore::create` answers want of memory: a new
+//! page's entry, and takes at most one page. What is counted is `Table::find`; that an access does not look by
+//! `Table::peek`, which counts nothing, can be seen in the code. Only `PageStore::create` answers want of memory: a new
 //! entry of the cache takes some, and where there is none the cache stays as it was.
 #![tactic(auto)]
 
