@@ -20,8 +20,8 @@ use Rattle.flat_model.specs.State.{FlatState, Page, page_at, bytes_of, places_of
 use Rattle.flat_model.specs.Step.{written}
 use Rattle.range_alloc.proofs.Entries.{sorted_table}
 use Rattle.data_path.specs.declared.store.PageStore.{PageStore}
-use Rattle.data_path.specs.Store.{page_in, pages_in, memory_of, held_places, IsWhole}
-use Rattle.data_path.specs.Spaces.{bytes_or_none, bytes_from, contents_of, page_count, space_no, IsHonest}
+use Rattle.data_path.specs.Store.{page_in, pages_in, memory_of, held_places, IsWhole, space_no}
+use Rattle.data_path.specs.Spaces.{bytes_or_none, bytes_from, contents_of, page_count, IsHonest}
 use Rattle.data_path.proofs.Accesses.{page_there, bytes_framed}
 use Rattle.data_path.proofs.Framing.{frame_named}
 use Rattle.data_path.proofs.Keyed.{around}

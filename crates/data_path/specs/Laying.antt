@@ -12,7 +12,7 @@ use Rattle.page_arena.specs.Arena.{page_at}
 use Rattle.page_pool.specs.PoolPages.{free_list, AreZero, IsReady}
 use Rattle.flat_model.specs.State.{places_of}
 use Rattle.data_path.specs.declared.store.PageStore.{PageStore}
-use Rattle.data_path.specs.Store.{no_entries}
+use Rattle.data_path.specs.Store.{no_entries, space_no}
 
 -- a page, and the number of pages of the range that begins there, 0 where none does
 abbrev pub Row : Type 0
@@ -30,7 +30,7 @@ spanned span (place ∷ places) = (place, span) ∷ spanned 0 places
 -- the rows of offload k, and of those behind it, which have so many pages
 abbrev pub rows_from : ℕ → List ℕ → List Row
 rows_from k [] = []
-rows_from k (pages ∷ spaces) = spanned pages (places_of (65280 + k) 1 pages) ++ rows_from (k + 1) spaces
+rows_from k (pages ∷ spaces) = spanned pages (places_of (space_no k) 1 pages) ++ rows_from (k + 1) spaces
 
 -- the entries of rows whose pages may be read and written, and have the frames from this one on
 abbrev pub numbered : ℕ → List Row → List (Place × Pte)

@@ -7,6 +7,7 @@ use Rattle.cl_types.specs.Bytes.{fresh_bytes}
 use Rattle.cl_types.specs.Config.{offload_pages}
 use Rattle.cl_types.specs.Places.{Place}
 use Rattle.flat_model.specs.State.{FlatState, Page, held_from}
+use Rattle.data_path.specs.Store.{space_no}
 
 -- a page that may be read and written, and has a frame of zeros
 abbrev pub zeroed_page : Page
@@ -15,7 +16,7 @@ zeroed_page = record { perm = ReadWrite; bytes = Some fresh_bytes }
 -- how many pages offload k has, and those behind it, by the first page of each: all are one range
 abbrev pub ranges_from : ℕ → List OffloadConfig → List (Place × ℕ)
 ranges_from k [] = []
-ranges_from k (offload ∷ offloads) = ((65280 + k, 1), offload_pages offload) ∷ ranges_from (k + 1) offloads
+ranges_from k (offload ∷ offloads) = ((space_no k, 1), offload_pages offload) ∷ ranges_from (k + 1) offloads
 
 -- the memory of a node at its opening: the pages of the offloads, and no other
 abbrev pub opened_memory : NodeConfig → FlatState

@@ -12,11 +12,7 @@ use Rattle.page_pool.specs.PoolPages.{PoolPages, IsReady}
 use Rattle.translate_cache.specs.Cached.{Cached}
 use Rattle.flat_model.specs.State.{FlatState, Page, bytes_of, page_at}
 use Rattle.data_path.specs.declared.store.PageStore.{PageStore}
-use Rattle.data_path.specs.Store.{IsWhole, memory_of}
-
--- the number of an offload's space
-abbrev pub space_no : ℕ → ℕ
-space_no k = 65280 + k
+use Rattle.data_path.specs.Store.{IsWhole, memory_of, space_no}
 
 -- the bytes of a page that is mapped
 abbrev pub bytes_or_none : Option Page → List ℕ

@@ -63,10 +63,14 @@ abbrev pub backed : List (Place × Pte) → ℕ
 backed [] = 0
 backed (entry ∷ entries) = (if is_some entry.1.frame then 1 else 0) + backed entries
 
+-- the number of an offload's space
+abbrev pub space_no : ℕ → ℕ
+space_no k = 65280 + k
+
 -- the pages of offload k, and of those behind it, which have so many
 abbrev pub held_places : ℕ → List ℕ → List Place
 held_places k [] = []
-held_places k (pages ∷ spaces) = places_of (65280 + k) 1 pages ++ held_places (k + 1) spaces
+held_places k (pages ∷ spaces) = places_of (space_no k) 1 pages ++ held_places (k + 1) spaces
 
 -- each entry of the cache is the table's
 abbrev pub IsCached : Cached → PageMap → Type 0

@@ -14,11 +14,12 @@ ghost use Rattle.flat_model.specs.Opening.{open_fault};
 ghost use Rattle.flat_model.specs.Rows.{keys, AreFourAtMost};
 ghost use Rattle.flat_model.specs.State.{opening};
 
+use crate::space::space_no;
 use crate::store::PageStore;
 use cl_types::call::Perm;
 use cl_types::config::{NodeConfig, PageCounts, pages_of};
 use cl_types::items::NoMemory;
-use cl_types::numbers::{LAST_PID, PageNo, Space16, Vpn};
+use cl_types::numbers::{PageNo, Space16, Vpn};
 use cl_types::page::Pte;
 use cl_types::steps::Steps;
 use flat_model::open_fault::OpenFault;
@@ -124,7 +125,7 @@ impl PageStore {
         ensures pages { self.new.pool.pages ≡ self.old.pool.pages }
         ensures capacity { self.new.pool.capacity ≡ self.old.pool.capacity }
     {
-        let space = Space16(LAST_PID + 1 + self.spaces.as_slice().len() as u16);
+        let space = space_no(self.spaces.as_slice().len() as u8);
         for i in 0..pages {
             self.add_page(space, Vpn(i + 1), span_of(i, pages));
         }

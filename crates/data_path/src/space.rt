@@ -4,6 +4,7 @@ ghost use Rattle.std.specs.Prelude.{◌≡◌, ◌+◌, ◌/◌, ◌<◌, length
 ghost use Rattle.cl_types.specs.declared.limits.TheConstants.{PAGE_BYTES};
 ghost use Rattle.hash_buckets.specs.PageMap.{entry_of};
 ghost use Rattle.range_alloc.specs.Ranges.{frame_at};
+ghost use Rattle.data_path.specs.Store.{space_no};
 
 use crate::store::PageStore;
 use cl_types::limits::PAGE_BYTES;
@@ -19,8 +20,15 @@ pub struct SpaceOf<'a> {
     pub offload: u8,
 }
 
+/// The space of an offload.
+pub(crate) fn space_no(offload: u8) -> Space16
+    ensures { result.0 ≡ space_no offload }
+{
+    Space16(LAST_PID + 1 + u16::from(offload))
+}
+
 impl PageStore {
-    ghost use Rattle.data_path.specs.Spaces.{page_count, space_no, IsHonest};
+    ghost use Rattle.data_path.specs.Spaces.{page_count, IsHonest};
 
     /// The space of an offload that exists.
     pub fn space_of(&mut self, offload: u8) -> SpaceOf<'_>
@@ -41,9 +49,8 @@ impl PageStore {
         requires within { at / PAGE_BYTES < page_count self.now offload }
         ensures { entry_of self.now.table (space_no offload, at / PAGE_BYTES + 1) ≡ Some result }
     {
-        let space = Space16(LAST_PID + 1 + u16::from(offload));
         let vpn = Vpn((at / PAGE_BYTES + 1) as u16);
-        let Some(pte) = self.table.peek(space, vpn) else {
+        let Some(pte) = self.table.peek(space_no(offload), vpn) else {
             unreachable!()
         };
         pte

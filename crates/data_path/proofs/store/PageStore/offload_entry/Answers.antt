@@ -12,5 +12,5 @@ overflow_cast-vpn c =
 pub unreachable-requires : goal.unreachable-requires
 unreachable-requires c =
     let h = held_page c.args.self.now c.args.offload (c.args.at / 4096 + 1) c.requires.honest.whole c.requires.honest.exists (omega arith) (omega (arith, c.requires.within)) in
-    let both = sym c.in_default.is ∙ c.peek.ensures ∙ ap (λ (k : ℕ). entry_of c.args.self.now.table (65280 + k, c.args.at / 4096 + 1)) c.from.ensures ∙ h.there in
+    let both = sym c.in_default.is ∙ c.peek.ensures ∙ ap (λ (k : ℕ). entry_of c.args.self.now.table (k, c.args.at / 4096 + 1)) c.space_no.ensures ∙ h.there in
     cc
