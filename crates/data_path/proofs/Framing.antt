@@ -50,6 +50,14 @@ used_is s = omega (arith, count s.table.entries)
 pub frame_named : (s : PageStore) (place : Place) (pte : Pte) (frame : PageNo) → entry_of s.table place ≡ Some pte → pte.frame ≡ Some frame → frame_at s.table place ≡ Some frame.0
 frame_named s place pte frame there framed = ap frame_in there ∙ ap (option_map (λ (f : PageNo). f.0)) framed
 
+-- it is a page of the arena
+pub frame_within : (s : PageStore) → IsFit s → (place : Place) (pte : Pte) → entry_of s.table place ≡ Some pte → IfSome pte.frame (λ frame. frame.0 < length s.arena)
+frame_within s fit place pte there = by pte.frame refl
+  where
+    by : (o : Option PageNo) → pte.frame ≡ o → IfSome o (λ frame. frame.0 < length s.arena)
+    by None is = tt
+    by (Some frame) is = omega (arith, (fit.taken.taken place frame.0 (frame_named s place pte frame there is)).in_range, fit.arena)
+
 has_neither : (xs ys : List ℕ) (p : ℕ) → has xs p ≡ false → has ys p ≡ false → has (xs ++ ys) p ≡ false
 has_neither [] ys p a b = b
 has_neither (x ∷ xs) ys p a b = elim (cases_Bool (eqb p x)) [ inl t ↦ absurd (let e = rw t at a in cc) | inr f ↦ rw f (has_neither xs ys p (rw f at a) b) ]

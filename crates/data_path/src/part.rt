@@ -3,7 +3,7 @@
 ghost use Rattle.std.specs.Prelude.{◌≡◌, ◌+◌, ◌<◌, ◌≤◌, length, slice_set, Some, IsSome, IfSome, OnErr};
 ghost use Rattle.cl_types.specs.declared.limits.TheConstants.{PAGE_BYTES};
 ghost use Rattle.cl_types.specs.declared.reply.Reply.TheVariants.{Nothing, Got};
-ghost use Rattle.cl_types.specs.Bytes.{with_bytes};
+ghost use Rattle.cl_types.specs.Bytes.{bytes_at, with_bytes};
 ghost use Rattle.cl_types.specs.Places.{Place};
 ghost use Rattle.page_arena.specs.Arena.{page_at as arena_page};
 ghost use Rattle.page_pool.specs.PoolPages.{IsReady, IsTaken};
@@ -16,12 +16,13 @@ ghost use Rattle.flat_model.specs.Step.{read, write, written};
 use crate::need::Need;
 use crate::store::{PageStore, offset_of};
 use cl_types::numbers::{Addr, PageNo, Space16};
+use cl_types::page::Pte;
 use cl_types::reply::Refusal;
 use cl_types::steps::Steps;
 use std::sync::ledger::Ledger;
 
 impl PageStore {
-    ghost use Rattle.data_path.specs.Store.{memory_of, IsLatest, IsWhole};
+    ghost use Rattle.data_path.specs.Store.{memory_of, page_in, IsLatest, IsWhole};
     ghost use Rattle.data_path.specs.Access.{reply_in, IsPiece};
 
     /// Fills `out` with the bytes from an address on, all in one page: a Read. A fresh page gives zeros and gets no
@@ -49,15 +50,23 @@ impl PageStore {
         ensures spaces { self.new.spaces ≡ self.old.spaces }
     {
         let pte = self.find(space, addr, Need::Read, reads)?;
+        self.show(pte, offset_of(addr), out);
+        Ok(())
+    }
+
+    /// Fills `out` with the bytes of an entry's page from a place on. A fresh page gives zeros.
+    pub fn show(&self, pte: Pte, at: usize, out: &mut [u8])
+        requires within { at + length out.old ≤ PAGE_BYTES }
+        requires framed { IfSome pte.frame (λ frame. frame.0 < length self.now.arena) }
+        ensures { out.new ≡ bytes_at at (length out.old) (bytes_of (page_in self.now.arena pte)) }
+    {
         match pte.frame {
             None => out.fill(0),
             Some(frame) => {
-                let at = offset_of(addr);
                 let page = self.arena.page(frame.0);
                 out.copy_from_slice(&page[at..at + out.len()]);
             }
         }
-        Ok(())
     }
 
     /// Puts bytes at an address, all in one page: a Write. A fresh page gets a frame first.

@@ -112,14 +112,7 @@ impl Memory {
         let Some(pte) = self.store.table.peek(space, page_of(addr)) else {
             return Err(Refusal::NoMapping);
         };
-        match pte.frame {
-            None => out.fill(0),
-            Some(frame) => {
-                let at = offset_of(addr);
-                let page = self.store.arena.page(frame.0);
-                out.copy_from_slice(&page[at..at + out.len()]);
-            }
-        }
+        self.store.show(pte, offset_of(addr), out);
         Ok(())
     }
 }
