@@ -7,7 +7,7 @@ use Rattle.cl_types.specs.declared.limits.TheConstants.{PAGE_BYTES}
 use Rattle.cl_types.specs.declared.reply.Refusal.{Refusal}
 use Rattle.flat_model.specs.Objects.{Object, Pairs, Given, key_cmp}
 use Rattle.flat_model.specs.Objects.Object.{KvObject}
-use Rattle.kv_offload.specs.declared.layout.TheConstants.{VALUE_BYTES}
+use Rattle.kv_offload.specs.declared.layout.TheConstants.{MOST_RECORDS, VALUE_BYTES}
 use Rattle.kv_offload.specs.Layout.{View, view_of, home_in, key_of, value_of}
 use Rattle.kv_offload.specs.Links.{IsTied, behind}
 
@@ -43,7 +43,7 @@ pub record IsSound (records : ℕ) (view : View) : Type 0 where
 -- a store has so many records, and its pages are there
 pub record HasPages (records : ℕ) (contents : List ℕ) : Type 0 where
   pub some : 1 ≤ records
-  pub few : records ≤ 4096
+  pub few : records ≤ MOST_RECORDS
   pub pages : offload_pages (Kv records) * PAGE_BYTES ≤ length contents
 
 -- the bytes are a store of so many records, as `init` and each call leave it

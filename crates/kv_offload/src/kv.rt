@@ -3,12 +3,13 @@
 ghost use Rattle.std.specs.Prelude.{◌≡◌, ◌≢◌, ◌+◌, ◌*◌, ◌-◌, ◌<◌, ◌≤◌, ℕ, [], ◌∷◌, ◌++◌, length, ◌==◌, if◌then◌else◌, IfNone, IfSome, IfErr, IfOk, drop};
 ghost use Rattle.std.specs.FinMap.Entries.{find};
 ghost use Rattle.flat_model.specs.Objects.{key_cmp, kv_put, kv_get, kv_delete};
-ghost use Rattle.kv_offload.specs.declared.layout.TheConstants.{KEY_BYTES, VALUE_BYTES};
+ghost use Rattle.kv_offload.specs.declared.layout.TheConstants.{KEY_BYTES, MOST_RECORDS, VALUE_BYTES};
 ghost use Rattle.kv_offload.specs.Found.{IsFound, IsAbsent};
 ghost use Rattle.kv_offload.specs.Layout.{key_of, head_of, link_of, count_of, next_free, value_size};
 ghost use Rattle.kv_offload.specs.Stored.{IsStore, HasPages, pairs_in, object_in, given_by, answered};
 
 use crate::layout::{FREE, HEADS, head_of};
+use cl_types::limits::PART_BYTES;
 use cl_types::reply::Refusal;
 use cl_types::space::Space;
 
@@ -79,7 +80,7 @@ impl Kv {
         &self,
         space: &mut P,
         key: &[u8],
-        out: &mut [u8; 1024],
+        out: &mut [u8; PART_BYTES as usize],
     ) -> Result<usize, Refusal>
         requires store { IsStore self.now.records (P.contents space.old) }
         requires some { 1 ≤ length key.now }
@@ -139,7 +140,7 @@ impl Kv {
     /// The node behind that of a slot while all slots are free.
     fn next_free(&self, slot: u32) -> u32
         requires slot { slot < self.now.records }
-        requires few { self.now.records ≤ 4096 }
+        requires few { self.now.records ≤ MOST_RECORDS }
         ensures node { result ≡ next_free self.now.records slot }
         ensures below { result < 65536 }
     {

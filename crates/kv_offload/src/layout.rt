@@ -10,6 +10,10 @@ use crate::kv::Kv;
 use cl_types::limits::PAGE_BYTES;
 use cl_types::space::Space;
 
+/// The greatest number of records of a store, as the numbers of a configuration allow it. It is small enough that each
+/// node is a number of two bytes.
+pub const MOST_RECORDS: u32 = 4096;
+
 /// How many chains of records there are, one for each hash of a key.
 pub const KEY_CHAINS: u32 = 1024;
 
@@ -35,13 +39,13 @@ pub const VALUE_LEN_AT: u32 = 3;
 /// Where the key begins in a slot.
 pub const KEY_AT: u32 = 5;
 
-/// The greatest length of a key.
+/// The greatest number of bytes of a key.
 pub const KEY_BYTES: u32 = 32;
 
 /// Where the value begins in a slot.
 pub const VALUE_AT: u32 = 37;
 
-/// The greatest length of a value.
+/// The greatest number of bytes of a value.
 pub const VALUE_BYTES: u32 = 256;
 
 // A slot has room for the greatest record, a page for its slots, and the first page for the heads and the count.
@@ -52,6 +56,9 @@ const _: () = prove!(VALUE_AT + VALUE_BYTES <= SLOT_BYTES);
 const _: () = prove!(PAGE_SLOTS * SLOT_BYTES <= PAGE_BYTES);
 
 const _: () = prove!(2 * HEADS + 2 <= PAGE_BYTES);
+
+// A link has room for each node.
+const _: () = prove!(HEADS + MOST_RECORDS <= 65536);
 
 /// What a record says to one who looks for a key.
 #[derive(Drop)]
@@ -80,7 +87,7 @@ pub fn head_of(key: &[u8]) -> u32
 
 /// Where a slot begins.
 fn slot_place(slot: u32) -> u32
-    requires { slot < 4096 }
+    requires { slot < MOST_RECORDS }
     ensures { result ≡ slot_place slot }
 {
     PAGE_BYTES * (1 + slot / PAGE_SLOTS) + SLOT_BYTES * (slot % PAGE_SLOTS)
@@ -88,7 +95,7 @@ fn slot_place(slot: u32) -> u32
 
 /// Where the link of a node stands.
 fn link_place(node: u32) -> u32
-    requires { node < HEADS + 4096 }
+    requires { node < HEADS + MOST_RECORDS }
     ensures { result ≡ link_place node }
 {
     if node < HEADS {

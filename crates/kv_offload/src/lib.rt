@@ -23,3 +23,4 @@ mod layout;
 mod tests;
 
 pub use kv::Kv;
+pub use layout::{KEY_BYTES, VALUE_BYTES};

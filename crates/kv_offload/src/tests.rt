@@ -2,8 +2,10 @@
 
 ghost use Rattle.std.specs.Prelude.{◌≡◌, ◌≤◌, length};
 ghost use Rattle.kv_offload.specs.Stored.{IsStore};
+ghost use Rattle.kv_offload.specs.declared.layout.TheConstants.{KEY_BYTES};
 
 use crate::Kv;
+use cl_types::limits::PART_BYTES;
 use cl_types::reply::Refusal;
 use cl_types::space::MemorySpace;
 use std::test::Fail;
@@ -14,10 +16,10 @@ const KV: Kv = Kv { records: 2 };
 fn first_byte(space: &mut MemorySpace, key: &[u8]) -> Result<(usize, u8), Refusal>
     requires store { IsStore 2 space.old }
     requires some { 1 ≤ length key.now }
-    requires key { length key.now ≤ 32 }
+    requires key { length key.now ≤ KEY_BYTES }
     ensures { IsStore 2 space.new }
 {
-    let mut out = [0; 1024];
+    let mut out = [0; PART_BYTES as usize];
     let size = KV.get(space, key, &mut out)?;
     Ok((size, out[0]))
 }

@@ -12,6 +12,10 @@ pub record AreOffloads (offloads : List OffloadConfig) : Type 0 where
   pub few : length offloads ≤ 16
   pub in_range : first_bad (judged_offloads offloads) ≡ None
 
+-- how many records the store of an offload has
+abbrev pub records_of : OffloadConfig → ℕ
+records_of (Kv records) = records
+
 -- the object of an offload that these bytes hold
 abbrev pub object_of : OffloadConfig → List ℕ → Object
 object_of (Kv records) contents = object_in records contents

@@ -4,6 +4,7 @@ use Rattle.std.specs.FinMap.Entries.{find}
 use Rattle.std.specs.Int.{to_be_bytes, w32}
 use Rattle.cl_types.specs.declared.reply.Refusal.TheVariants.{BadOp}
 use Rattle.flat_model.specs.Objects.{Given, KvObject, Pairs, key_cmp, kv_delete, kv_get, kv_put}
+use Rattle.kv_offload.specs.declared.layout.TheConstants.{KEY_BYTES, VALUE_BYTES}
 use Rattle.offload_host.specs.declared.operation.Operation.{Operation}
 use Rattle.offload_host.specs.declared.operation.Operation.TheVariants.{Put, Get, Delete, Count}
 
@@ -19,13 +20,13 @@ abbrev pub given_if : Option Operation → ℕ → Pairs → Given
 given_if None records pairs = Err BadOp
 given_if (Some operation) records pairs = given_of operation records pairs
 
--- a key has 1 to 32 bytes
+-- a key has at least a byte, and no more than a store takes
 abbrev pub IsKey : List ℕ → Type 0
-IsKey key = (1 ≤ length key) × (length key ≤ 32)
+IsKey key = (1 ≤ length key) × (length key ≤ KEY_BYTES)
 
 -- the keys and the value of an operation have lengths that a store takes
 abbrev pub HasLengths : Operation → Type 0
-HasLengths (Put key value) = (1 ≤ length key.now) × (length key.now ≤ 32) × (length value.now ≤ 256)
+HasLengths (Put key value) = (1 ≤ length key.now) × (length key.now ≤ KEY_BYTES) × (length value.now ≤ VALUE_BYTES)
 HasLengths (Get key) = IsKey key.now
 HasLengths (Delete key) = IsKey key.now
 HasLengths Count = Unit {0}

@@ -2,12 +2,16 @@
 
 ghost use Rattle.std.specs.Prelude.{◌≡◌, ◌*◌, ◌%◌, ◌<◌, ◌≤◌, IfErr, IfOk, IfSome, None, Some, length, slice_get};
 ghost use Rattle.cl_types.specs.Config.{first_bad, judged_offload, offload_pages};
+ghost use Rattle.cl_types.specs.declared.limits.TheConstants.{PAGE_BYTES, PART_BYTES};
 ghost use Rattle.flat_model.specs.Opening.{pages_at};
-ghost use Rattle.offload_host.specs.Held.{AreOffloads, HoldsEmpty, HoldsObject, TakesStep};
+ghost use Rattle.kv_offload.specs.declared.layout.TheConstants.{MOST_RECORDS};
+ghost use Rattle.offload_host.specs.Held.{AreOffloads, HoldsEmpty, HoldsObject, TakesStep, records_of};
+ghost use Rattle.offload_host.specs.declared.store.TheConstants.{SMALL_BYTES};
 
 use crate::store::step;
 use cl_types::config::{OffloadConfig, OffloadList, pages_of};
 use cl_types::items::NoMemory;
+use cl_types::limits::PART_BYTES;
 use cl_types::reply::Refusal;
 use cl_types::space::Space;
 use kv_offload::Kv;
@@ -23,6 +27,7 @@ pub struct Host {
 impl Model for Host {
     ghost use Rattle.std.specs.Prelude.{List};
     ghost use Rattle.cl_types.specs.declared.config.OffloadConfig.{OffloadConfig};
+    ghost use Rattle.kv_offload.specs.declared.layout.TheConstants.{MOST_RECORDS};
     ghost use Rattle.offload_host.specs.Held.{AreOffloads};
 
     ghost Value = { List OffloadConfig };
@@ -32,21 +37,28 @@ impl Model for Host {
     ghost invariant = { λ host. AreOffloads host.offloads.items };
 }
 
+/// The store that an offload is.
+fn store_of(offload: OffloadConfig) -> Kv
+    requires { records_of offload ≤ MOST_RECORDS }
+    ensures { offload ≡ OffloadConfig.Kv result.records }
+{
+    let OffloadConfig::Kv { records } = offload;
+    Kv {
+        records: records as u32,
+    }
+}
+
 /// Makes a space the empty object of an offload.
 fn init_object<P: Space>(offload: OffloadConfig, space: &mut P)
     requires in_range { first_bad (judged_offload offload) ≡ None }
-    requires pages { offload_pages offload * 4096 ≤ length (P.contents space.old) }
+    requires pages { offload_pages offload * PAGE_BYTES ≤ length (P.contents space.old) }
     requires honest { P.honest space.old }
     ensures object { HoldsObject offload (P.contents space.new) }
     ensures empty { HoldsEmpty offload (P.contents space.new) }
     ensures rest { P.rest space.new ≡ P.rest space.old }
     ensures honest { P.honest space.new }
 {
-    let OffloadConfig::Kv { records } = offload;
-    let kv = Kv {
-        records: records as u32,
-    };
-    kv.init(space);
+    store_of(offload).init(space);
 }
 
 /// Takes one step of an offload's object.
@@ -55,24 +67,20 @@ fn step_object<P: Space>(
     op: u8,
     bytes: &[u8],
     space: &mut P,
-    out: &mut [u8; 1024],
+    out: &mut [u8; PART_BYTES as usize],
 ) -> Result<usize, Refusal>
     requires object { HoldsObject offload (P.contents space.old) }
     requires honest { P.honest space.old }
     ensures step { TakesStep offload (P.contents space.old) op bytes.now
         result out.new (P.contents space.new) }
-    ensures within { IfOk result (λ len. len ≤ 1024) }
-    ensures short { op % 2 ≡ 1 → IfOk result (λ len. len ≤ 16) }
+    ensures within { IfOk result (λ len. len ≤ PART_BYTES) }
+    ensures short { op % 2 ≡ 1 → IfOk result (λ len. len ≤ SMALL_BYTES) }
     ensures refused { IfErr result (λ _. P.contents space.new ≡ P.contents space.old) }
     ensures object { HoldsObject offload (P.contents space.new) }
     ensures rest { P.rest space.new ≡ P.rest space.old }
     ensures honest { P.honest space.new }
 {
-    let OffloadConfig::Kv { records } = offload;
-    let kv = Kv {
-        records: records as u32,
-    };
-    step(kv, op, bytes, space, out)
+    step(store_of(offload), op, bytes, space, out)
 }
 
 impl Host {
@@ -114,7 +122,7 @@ impl Host {
     /// Makes the space of an offload hold its object as it is at the opening.
     pub fn init<P: Space>(&self, no: u8, space: &mut P)
         requires exists { no < length self.now }
-        requires pages { pages_at self.now no * 4096 ≤ length (P.contents space.old) }
+        requires pages { pages_at self.now no * PAGE_BYTES ≤ length (P.contents space.old) }
         requires honest { P.honest space.old }
         ensures object { IfSome (slice_get self.now no) (λ offload.
             HoldsObject offload (P.contents space.new)) }
@@ -134,7 +142,7 @@ impl Host {
         op: u8,
         bytes: &[u8],
         space: &mut P,
-        out: &mut [u8; 1024],
+        out: &mut [u8; PART_BYTES as usize],
     ) -> Result<usize, Refusal>
         requires exists { no < length self.old }
         requires object { IfSome (slice_get self.old no) (λ offload.
@@ -143,8 +151,8 @@ impl Host {
         ensures step { IfSome (slice_get self.old no) (λ offload.
             TakesStep offload (P.contents space.old) op bytes.now
             result out.new (P.contents space.new)) }
-        ensures within { IfOk result (λ len. len ≤ 1024) }
-        ensures short { op % 2 ≡ 1 → IfOk result (λ len. len ≤ 16) }
+        ensures within { IfOk result (λ len. len ≤ PART_BYTES) }
+        ensures short { op % 2 ≡ 1 → IfOk result (λ len. len ≤ SMALL_BYTES) }
         ensures refused { IfErr result (λ _. P.contents space.new ≡ P.contents space.old) }
         ensures object { IfSome (slice_get self.old no) (λ offload.
             HoldsObject offload (P.contents space.new)) }

@@ -9,7 +9,7 @@
 //! memory.
 #![tactic(auto)]
 
-pub mod host;
+mod host;
 pub mod laws;
 mod operation;
 mod store;

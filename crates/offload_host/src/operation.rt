@@ -2,13 +2,10 @@
 
 ghost use Rattle.std.specs.Prelude.{◌≡◌, ◌≤◌, ◌==◌, ◌&&◌, ℕ, IfSome, IsTrue, length};
 ghost use Rattle.flat_model.specs.Objects.{Pairs, is_keyed, key_in, kv_step, value_in};
+ghost use Rattle.kv_offload.specs.declared.layout.TheConstants.{KEY_BYTES, VALUE_BYTES};
 ghost use Rattle.offload_host.specs.Operations.{HasLengths, given_if};
 
-/// The greatest number of bytes of a key.
-const KEY_BYTES: usize = 32;
-
-/// The greatest number of bytes of a value.
-const VALUE_BYTES: usize = 256;
+use kv_offload::{KEY_BYTES, VALUE_BYTES};
 
 // The numbers of the operations.
 const PUT: u8 = 1;
@@ -34,21 +31,21 @@ pub enum Operation<'a> {
 
 /// Whether the first byte is the length of a key, and behind it stand the key and at most `most` bytes.
 fn is_keyed_bytes(bytes: &[u8], most: usize) -> bool
-    requires { most ≤ 256 }
+    requires { most ≤ VALUE_BYTES }
     ensures { result ≡ is_keyed most bytes.now }
 {
     match bytes {
         [] => false,
         [n, rest @ ..] => {
             let n = *n as usize;
-            1 <= n && n <= KEY_BYTES && n <= rest.len() && rest.len() <= n + most
+            1 <= n && n <= KEY_BYTES as usize && n <= rest.len() && rest.len() <= n + most
         }
     }
 }
 
 /// Whether it is this operation, with a key and at most `most` bytes behind it.
 fn is_keyed_op(op: u8, wanted: u8, bytes: &[u8], most: usize) -> bool
-    requires { most ≤ 256 }
+    requires { most ≤ VALUE_BYTES }
     ensures { result ≡ (op == wanted && is_keyed most bytes.now) }
 {
     op == wanted && is_keyed_bytes(bytes, most)
@@ -56,15 +53,15 @@ fn is_keyed_op(op: u8, wanted: u8, bytes: &[u8], most: usize) -> bool
 
 /// The key of bytes that have one, and what stands behind it.
 fn cut(bytes: &[u8]) -> (&[u8], &[u8])
-    requires { IsTrue (is_keyed 256 bytes.now) }
+    requires { IsTrue (is_keyed VALUE_BYTES bytes.now) }
     ensures key { result.0.now ≡ key_in bytes.now }
     ensures behind { result.1.now ≡ value_in bytes.now }
     ensures some { 1 ≤ length result.0.now }
-    ensures few { length result.0.now ≤ 32 }
-    ensures short { length result.1.now ≤ 256 }
+    ensures few { length result.0.now ≤ KEY_BYTES }
+    ensures short { length result.1.now ≤ VALUE_BYTES }
 {
     match bytes {
-        [] => (bytes, bytes),
+        [] => unreachable!(),
         [n, rest @ ..] => rest.split_at(*n as usize),
     }
 }
@@ -76,7 +73,7 @@ pub fn read_operation(op: u8, bytes: &[u8]) -> Option<Operation<'_>>
         kv_step records pairs op bytes.now ≡ given_if result records pairs }
     ensures lengths { IfSome result HasLengths }
 {
-    if is_keyed_op(op, PUT, bytes, VALUE_BYTES) {
+    if is_keyed_op(op, PUT, bytes, VALUE_BYTES as usize) {
         let (key, value) = cut(bytes);
         return Some(Operation::Put { key, value });
     }

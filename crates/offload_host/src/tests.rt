@@ -1,7 +1,8 @@
 //! What no clause says: the worked steps of a key-value store of two records, over a space in memory.
 
-use crate::host::Host;
+use crate::Host;
 use cl_types::config::{OffloadConfig, OffloadList};
+use cl_types::limits::PART_BYTES;
 use cl_types::reply::Refusal;
 use cl_types::space::MemorySpace;
 use std::test::Fail;
@@ -31,7 +32,7 @@ fn takes_the_worked_steps_of_a_store_of_two_records(rt: HostRuntime) -> Result<(
     let mut host = Host::create(rt.alloc(), &offloads)?;
     let mut space = MemorySpace::create(rt.alloc(), host.pages(0))?;
     host.init(0, &mut space);
-    let mut out = [0; 1024];
+    let mut out = [0; PART_BYTES as usize];
     for (op, bytes, want) in cases {
         let got = match host.call(0, op, bytes, &mut space, &mut out) {
             Ok(len) => Ok(&out[..len]),
