@@ -39,7 +39,7 @@ enum Judged {
     Looks,
 }
 
-/// A node.
+/// The protocol of retries, around a machine.
 #[derive(Drop)]
 pub struct Keeper<M: Machine + Drop> {
     machine: M,

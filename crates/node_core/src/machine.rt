@@ -26,7 +26,7 @@ pub trait Machine {
     ghost cache: { Self → Cached };
 
     /// Executes a request of a process. The bytes of its reply, where it has any, are put at their
-    /// place in the frame `out`, and nothing of it counts otherwise.
+    /// place in the frame `out`; what else stands in `out` is not told.
     fn execute<A: Ledger, B: Ledger>(
         &mut self,
         pid: Pid,
