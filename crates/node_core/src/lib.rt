@@ -27,9 +27,5 @@ mod placed;
 #[cfg(test)]
 mod tests;
 
-pub use keeper::Keeper;
-pub use machine::Machine;
-pub use memory::Memory;
 pub use node::Node;
 pub use outcome::Outcome;
-pub use placed::PlacedReply;
