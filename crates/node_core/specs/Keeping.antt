@@ -22,6 +22,7 @@ use Rattle.flat_model.specs.Nodes.{Node, Said, Gives, IsBusy, NodeAnswer, Refuse
 use Rattle.node_core.specs.Placed.{page_used}
 use Rattle.node_core.specs.declared.outcome.Outcome.{Outcome}
 use Rattle.node_core.specs.declared.outcome.Outcome.TheVariants.{Replied, Busy, Bad}
+use Rattle.node_core.specs.declared.placed.TheConstants.{REPLY_BYTES}
 
 -- the keeping node, the latest moment that it was given, and the entries of its page table that were used of late
 pub record KeptNode : Type 0 where
@@ -42,7 +43,7 @@ IsCarried kind other reply = Unit {0}
 -- the outcome tells of this reply, whose frame stands at the start of the buffer, and how the node came to it
 abbrev pub TellsReply : Head → Kind → How → Reply → Outcome → List ℕ → Type 0
 TellsReply head kind how reply (Replied len told status) out =
-    (told ≡ how) × (status ≡ status_in reply) × (len ≤ 1051) × (take len out ≡ reply_frame head kind reply) × IsCarried kind how reply
+    (told ≡ how) × (status ≡ status_in reply) × (len ≤ REPLY_BYTES) × (take len out ≡ reply_frame head kind reply) × IsCarried kind how reply
 TellsReply head kind how reply other out = ⊥
 
 -- the outcome tells what is said to the item

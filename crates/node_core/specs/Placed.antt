@@ -9,6 +9,7 @@ use Rattle.cl_types.specs.Bytes.{bytes_at}
 use Rattle.flat_model.specs.Frames.{is_reply_of}
 use Rattle.flat_model.specs.Pages.{page_of}
 use Rattle.frame_codec.specs.Writing.{may_carry}
+use Rattle.node_core.specs.declared.placed.TheConstants.{VALUE_AT}
 use Rattle.node_core.specs.declared.placed.PlacedReply.{PlacedReply}
 use Rattle.node_core.specs.declared.placed.PlacedReply.TheVariants as placed
 
@@ -18,7 +19,7 @@ placed_in (placed.Refused refusal) out = reply.Refused refusal
 placed_in placed.Nothing out = reply.Nothing
 placed_in (placed.At addr) out = reply.At addr
 placed_in (placed.Word word) out = reply.Word word
-placed_in (placed.Got n) out = reply.Got (bytes_at 27 n out)
+placed_in (placed.Got n) out = reply.Got (bytes_at VALUE_AT n out)
 
 -- the reply is one that a frame of this kind can carry
 abbrev pub may_place : Kind → PlacedReply → Bool

@@ -2,6 +2,7 @@
 
 ghost use Rattle.std.specs.Prelude.{◌≡◌, ◌+◌, ◌≤◌, [], true, length, IfOk, IsTrue};
 ghost use Rattle.cl_types.specs.Requests.{request_of};
+ghost use Rattle.cl_types.specs.declared.limits.TheConstants.{FRAME_ROOM};
 ghost use Rattle.flat_model.specs.Frames.{IsHead, head_in, kind_of, request_in};
 ghost use Rattle.flat_model.specs.Handling.{Executes, Looks, latest};
 ghost use Rattle.flat_model.specs.Nodes.{handles, keeping, node_answer, node_given};
@@ -126,7 +127,7 @@ impl<M: Machine + Drop> Keeper<M> {
         takes: &mut Steps<B>,
     ) -> Outcome
         requires later { self.old.last ≤ now }
-        requires room { length out.old ≡ 1200 }
+        requires room { length out.old ≡ FRAME_ROOM }
         ensures node { self.new ≡ record {
           node = node_given latest self.old.node now frame.now;
           last = now;
@@ -160,7 +161,7 @@ impl<M: Machine + Drop> Keeper<M> {
     ) -> Outcome
         requires head { IsHead head.now }
         requires range { IsTrue (is_in_range (request_of request.now)) }
-        requires room { length out.old ≡ 1200 }
+        requires room { length out.old ≡ FRAME_ROOM }
         ensures node { self.new ≡ record self.old {
           node = (keeping self.old.node self.old.last (item_of head.now request.now)).node;
           cache = self.new.cache;
@@ -216,7 +217,7 @@ impl<M: Machine + Drop> Keeper<M> {
     ) -> Outcome
         requires head { IsHead head.now }
         requires range { IsTrue (is_in_range (request_of request.now)) }
-        requires room { length out.old ≡ 1200 }
+        requires room { length out.old ≡ FRAME_ROOM }
         requires looks { handling_at self.old (item_of head.now request.now) ≡ Looks }
         ensures node { self.new ≡ record self.old { cache = self.new.cache } }
         ensures answer { let reply = (outcome self.old.node.flat head.now.pid (request_of request.now)).reply in
@@ -250,7 +251,7 @@ impl<M: Machine + Drop> Keeper<M> {
     ) -> Outcome
         requires head { IsHead head.now }
         requires range { IsTrue (is_in_range (request_of request.now)) }
-        requires room { length out.old ≡ 1200 }
+        requires room { length out.old ≡ FRAME_ROOM }
         requires executes { handling_at self.old (item_of head.now request.now) ≡ Executes }
         ensures node { let item = item_of head.now request.now in
             self.new ≡ record self.old {
@@ -284,7 +285,7 @@ impl<M: Machine + Drop> Keeper<M> {
 
 // Gives a kept reply again.
 fn repeat(head: &Head, kind: Kind, reply: &SmallReply, out: &mut [u8]) -> Outcome
-    requires room { length out.old ≡ 1200 }
+    requires room { length out.old ≡ FRAME_ROOM }
     requires spelled { IsSpelled kind reply.now }
     ensures { TellsReply head.now kind How.Repeated (reply_kept kind reply.now) result out.new }
 {

@@ -2,6 +2,7 @@
 
 ghost use Rattle.std.specs.Prelude.{◌≡◌, ◌+◌, ◌≤◌, true, length, IsTrue};
 ghost use Rattle.cl_types.specs.Requests.{request_of};
+ghost use Rattle.cl_types.specs.declared.limits.TheConstants.{FRAME_ROOM};
 ghost use Rattle.flat_model.specs.Frames.{kind_of};
 ghost use Rattle.flat_model.specs.Ranges.{is_in_range};
 ghost use Rattle.flat_model.specs.Step.{outcome};
@@ -36,7 +37,7 @@ pub trait Machine {
         takes: &mut Steps<B>,
     ) -> PlacedReply
         requires range { IsTrue (is_in_range (request_of request.now)) }
-        requires room { length out.old ≡ 1200 }
+        requires room { length out.old ≡ FRAME_ROOM }
         ensures reply { placed_in result out.new
             ≡ (outcome (flat self.old) pid (request_of request.now)).reply }
         ensures state { flat self.new

@@ -2,6 +2,7 @@
 
 ghost use Rattle.std.specs.Prelude.{◌≡◌, ◌+◌, ◌≤◌, true, Err, IfErr, IfOk, MatchOption, OnErr, length, option_map};
 ghost use Rattle.cl_types.specs.Bytes.{bytes_at};
+ghost use Rattle.cl_types.specs.declared.limits.TheConstants.{FRAME_ROOM};
 ghost use Rattle.cl_types.specs.declared.reply.Refusal.TheVariants.{NoMapping};
 ghost use Rattle.data_path.specs.Access.{IsPiece};
 ghost use Rattle.data_path.specs.Store.{IsWhole, flat_of, memory_of, no_entries};
@@ -74,7 +75,7 @@ impl Node {
         takes: &mut Steps<B>,
     ) -> Outcome
         requires later { self.old.last ≤ now }
-        requires room { length out.old ≡ 1200 }
+        requires room { length out.old ≡ FRAME_ROOM }
         ensures node { self.new ≡ record {
           node = node_given latest self.old.node now frame.now;
           last = now;

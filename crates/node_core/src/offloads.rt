@@ -6,6 +6,7 @@ ghost use Rattle.cl_types.specs.declared.call.Kind.TheVariants.{Offload as Offlo
 ghost use Rattle.cl_types.specs.Bytes.{bytes_at};
 ghost use Rattle.cl_types.specs.Config.{offload_pages};
 ghost use Rattle.cl_types.specs.Requests.{request_of};
+ghost use Rattle.cl_types.specs.declared.limits.TheConstants.{FRAME_ROOM, PART_BYTES};
 ghost use Rattle.data_path.specs.Spaces.{contents_of};
 ghost use Rattle.data_path.specs.Store.{IsWhole, flat_of, memory_of};
 ghost use Rattle.flat_model.specs.Objects.{Object};
@@ -13,15 +14,20 @@ ghost use Rattle.flat_model.specs.Step.{outcome};
 ghost use Rattle.node_core.specs.Keeping.{IsUsed};
 ghost use Rattle.node_core.specs.Placed.{is_offload, may_place, placed_in};
 ghost use Rattle.node_core.specs.Stores.{ChangesSpace, IsStore, state_in};
+ghost use Rattle.node_core.specs.declared.placed.TheConstants.{VALUE_AT};
 ghost use Rattle.offload_host.specs.Held.{HoldsEmpty, HoldsObject, TakesStep};
 ghost use Rattle.offload_host.specs.Laws.{replied};
 ghost use Rattle.page_pool.specs.PoolPages.{IsReady};
 
 use crate::placed::{PlacedReply, VALUE_AT};
+use cl_types::limits::PART_BYTES;
 use cl_types::reply::Refusal;
 use cl_types::request::RequestRef;
 use data_path::PageStore;
 use offload_host::Host;
+
+/// The greatest number of bytes that an object answers.
+const ANSWER_BYTES: usize = PART_BYTES as usize;
 
 /// Makes the space of an offload hold its object as it is at the opening.
 fn init_space(store: &mut PageStore, host: &Host, no: u8)
@@ -67,7 +73,7 @@ fn call(
     no: u8,
     op: u8,
     bytes: &[u8],
-    answer: &mut [u8; 1024],
+    answer: &mut [u8; ANSWER_BYTES],
 ) -> Result<usize, Refusal>
     requires exists { no < length host.old }
     requires sound { IsStore store.old host.old }
@@ -75,8 +81,8 @@ fn call(
         TakesStep offload (contents_of no store.old) op bytes.now
         result answer.new (contents_of no store.new)) }
     ensures refused { IfErr result (λ _. contents_of no store.new ≡ contents_of no store.old) }
-    ensures within { IfOk result (λ len. len ≤ 1024) }
-    ensures long { length answer.new ≡ 1024 }
+    ensures within { IfOk result (λ len. len ≤ PART_BYTES) }
+    ensures long { length answer.new ≡ PART_BYTES }
     ensures object { IfSome (slice_get host.old no) (λ offload.
         HoldsObject offload (contents_of no store.new)) }
     ensures others { ChangesSpace no store.old store.new }
@@ -90,9 +96,9 @@ fn call(
 
 /// What an offload gave, of which at most `most` bytes are answered, as a reply.
 fn answer_placed(came: Result<usize, Refusal>, most: u16) -> PlacedReply
-    requires within { IfOk came (λ len. len ≤ 1024) }
+    requires within { IfOk came (λ len. len ≤ PART_BYTES) }
     ensures reply { (out : List ℕ) →
-        placed_in result out ≡ replied most came (bytes_at 27 1024 out) }
+        placed_in result out ≡ replied most came (bytes_at VALUE_AT PART_BYTES out) }
     ensures fits { IsTrue (may_place OffloadKind result) }
 {
     match came {
@@ -109,7 +115,7 @@ pub fn execute(
     out: &mut [u8],
 ) -> PlacedReply
     requires object { is_offload (request_of request.now) ≡ true }
-    requires room { length out.old ≡ 1200 }
+    requires room { length out.old ≡ FRAME_ROOM }
     requires sound { IsStore store.old host.old }
     ensures reply { (pid : ℕ) → placed_in result out.new
         ≡ (outcome (state_in host.old store.old) pid (request_of request.now)).reply }
@@ -133,7 +139,7 @@ pub fn execute(
         return PlacedReply::Refused(Refusal::NoOffload);
     }
     let (_, tail) = out.split_at_mut(VALUE_AT);
-    let Some(answer) = tail.first_chunk_mut::<1024>() else {
+    let Some(answer) = tail.first_chunk_mut::<ANSWER_BYTES>() else {
         unreachable!()
     };
     let came = call(store, host, no, op, bytes, answer);

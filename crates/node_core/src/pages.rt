@@ -2,6 +2,7 @@
 
 ghost use Rattle.std.specs.Prelude.{◌≡◌, ◌+◌, ◌≤◌, ℕ, List, true, false, length, IsSome, IsTrue};
 ghost use Rattle.cl_types.specs.declared.call.Kind.TheVariants.{Alloc as AllocKind, Atomic as AtomicKind, Free as FreeKind, Read as ReadKind, Write as WriteKind};
+ghost use Rattle.cl_types.specs.declared.limits.TheConstants.{FRAME_ROOM};
 ghost use Rattle.cl_types.specs.declared.reply.Reply.TheVariants.{Nothing, At, Word};
 ghost use Rattle.cl_types.specs.Places.{is_process};
 ghost use Rattle.cl_types.specs.Requests.{request_of};
@@ -59,7 +60,7 @@ fn read_placed<A: Ledger>(
     reads: &mut Steps<A>,
 ) -> PlacedReply
     requires piece { IsTrue (is_piece addr len) }
-    requires room { length out.old ≡ 1200 }
+    requires room { length out.old ≡ FRAME_ROOM }
     requires whole { IsWhole store.old }
     requires ready { IsReady store.old.pool }
     ensures reply { placed_in result out.new ≡ (read (memory_of store.old) pid addr len).reply }
@@ -111,7 +112,7 @@ pub fn execute<A: Ledger, B: Ledger>(
 ) -> PlacedReply
     requires range { IsTrue (is_in_range (request_of request.now)) }
     requires pages { is_offload (request_of request.now) ≡ false }
-    requires room { length out.old ≡ 1200 }
+    requires room { length out.old ≡ FRAME_ROOM }
     requires whole { IsWhole store.old }
     requires ready { IsReady store.old.pool }
     ensures reply { placed_in result out.new

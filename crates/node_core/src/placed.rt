@@ -3,22 +3,36 @@
 ghost use Rattle.std.specs.Prelude.{◌≡◌, ◌+◌, ◌<◌, ◌≤◌, ◌∷◌, drop, length, IsTrue};
 ghost use Rattle.cl_types.specs.SmallReplies.{value_of};
 ghost use Rattle.cl_types.specs.Kinds.{kind_number};
+ghost use Rattle.cl_types.specs.declared.limits.TheConstants.{FRAME_ROOM};
 ghost use Rattle.flat_model.specs.Frames.{IsHead, reply_frame};
 ghost use Rattle.frame_codec.specs.Writing.{IsWritten};
 ghost use Rattle.node_core.specs.Placed.{may_place, placed_in};
+ghost use Rattle.node_core.specs.declared.placed.TheConstants.{REPLY_BYTES, SMALL_REPLY_BYTES, STATUS_AT, VALUE_AT};
 
 use cl_types::call::Kind;
 use cl_types::frame::Head;
+use cl_types::limits::{FRAME_ROOM, PART_BYTES};
 use cl_types::numbers::Addr;
 use cl_types::reply::{Refusal, ReplyRef};
 use cl_types::small_reply::SmallReply;
 use frame_codec::{write_got, write_reply};
 
-/// The place of a reply's bytes in its frame: behind the header and the status.
-pub const VALUE_AT: usize = 27;
+// How the frame of a reply lies: its header, its status of one byte, and its value. docs/FORMATS.md draws it.
 
 /// The place of a reply's status in its frame: behind the header.
 pub const STATUS_AT: usize = 26;
+
+/// The place of a reply's value in its frame: behind the status.
+pub const VALUE_AT: usize = STATUS_AT + 1;
+
+/// The greatest number of bytes of a reply's frame: its value is at most the bytes of a part.
+pub const REPLY_BYTES: usize = VALUE_AT + PART_BYTES as usize;
+
+/// The greatest number of bytes of a reply's frame that is kept: a `SmallReply` has a value of at most 16 bytes.
+pub const SMALL_REPLY_BYTES: usize = VALUE_AT + 16;
+
+// The buffer for a frame has room for each reply.
+const _: () = prove!(REPLY_BYTES <= FRAME_ROOM);
 
 /// A reply of which the bytes that were got, where there are any, stand at their place in the frame.
 #[derive(Clone, Copy, Debug, PartialEq, Eq)]
@@ -37,10 +51,10 @@ pub enum PlacedReply {
 
 /// Writes the frame of a reply around its bytes, and tells how many bytes it has.
 pub fn write_frame(head: &Head, kind: Kind, reply: PlacedReply, out: &mut [u8]) -> usize
-    requires room { 1200 ≤ length out.old }
+    requires room { FRAME_ROOM ≤ length out.old }
     requires head { IsHead head.now }
     requires reply { IsTrue (may_place kind reply) }
-    ensures short { result ≤ 1051 }
+    ensures short { result ≤ REPLY_BYTES }
     ensures written { let frame = reply_frame head.now kind (placed_in reply out.old) in
         IsWritten frame result out.old out.new }
 {
@@ -57,9 +71,9 @@ pub fn write_frame(head: &Head, kind: Kind, reply: PlacedReply, out: &mut [u8]) 
 
 /// The status and the value of the reply in a frame, to be kept.
 pub fn small_in(frame: &[u8]) -> SmallReply
-    requires room { 27 ≤ length frame.now }
-    requires short { length frame.now ≤ 43 }
-    ensures { result.status ∷ value_of result ≡ drop 26 frame.now }
+    requires room { VALUE_AT ≤ length frame.now }
+    requires short { length frame.now ≤ SMALL_REPLY_BYTES }
+    ensures { result.status ∷ value_of result ≡ drop STATUS_AT frame.now }
 {
     SmallReply::create(frame[STATUS_AT], &frame[VALUE_AT..])
 }

@@ -10,6 +10,7 @@ use crate::node::Node;
 use crate::outcome::Outcome;
 use cl_types::config::{Field, NodeConfig, OffloadConfig, OffloadList};
 use cl_types::frame::{BadFrame, How};
+use cl_types::limits::FRAME_ROOM;
 use cl_types::numbers::{Addr, Space16, Vpn, try_pid};
 use cl_types::reply::Refusal;
 use cl_types::steps::Steps;
@@ -42,7 +43,7 @@ const PAGE_GIVEN: [u8; 31] = [
 #[derive(Drop)]
 struct Tried {
     node: Node,
-    out: [u8; 1200],
+    out: [u8; FRAME_ROOM],
 }
 
 /// A request by its kind and its body.
@@ -78,7 +79,7 @@ fn node_of(
     let offloads = OffloadList::create(alloc);
     Ok(Tried {
         node: opened(alloc, pages, buckets, ring, retry, offloads)?,
-        out: [0; 1200],
+        out: [0; FRAME_ROOM],
     })
 }
 
@@ -271,7 +272,7 @@ fn a_full_buffer_is_busy_while_its_oldest_record_is_young(rt: HostRuntime) -> Re
     assert_eq!(rt; tried.ask(0, 1, page), replied(31, How::Executed));
     assert_eq!(rt; &tried.out[..31], PAGE_GIVEN.as_slice());
     assert_eq!(rt; tried.ask(399, 2, write), busy(0, 399));
-    tried.out = [7; 1200];
+    tried.out = [7; FRAME_ROOM];
     assert_eq!(rt; tried.ask(399, 1, page), replied(31, How::Repeated));
     assert_eq!(rt; &tried.out[..31], PAGE_GIVEN.as_slice());
     assert_eq!(rt; tried.ask(400, 2, write), replied(27, How::Executed));
@@ -315,7 +316,7 @@ fn two_reads_of_a_page_read_its_bucket_once(rt: HostRuntime) -> Result<(), Fail>
     let mut tried = node_of(rt.alloc(), 16, 2, 4, 16).expect(&rt, "opens");
     assert!(rt; tried.answers(1, (ALLOC, &[0, 1, 3]), &[0, 0, 0, 16, 0]));
     assert!(rt; !tried.has_cached());
-    tried.out = [7; 1200];
+    tried.out = [7; FRAME_ROOM];
     let looked = (replied(31, How::Looked), true, replied(35, How::Looked));
     assert_eq!(rt; tried.read_twice(), looked);
     assert!(rt; tried.told(&[0; 9]));
@@ -345,7 +346,7 @@ fn a_store_of_two_records_takes_two_keys(rt: HostRuntime) -> Result<(), Fail> {
     let node = opened(rt.alloc(), 16, 8, 4, 16, offloads).expect(&rt, "opens");
     let mut tried = Tried {
         node,
-        out: [0; 1200],
+        out: [0; FRAME_ROOM],
     };
     assert!(rt; tried.answers(1, (OFFLOAD, &[0, 1, 0, 0, 1, b'a', b'v']), &[0]));
     assert!(rt; tried.answers(2, (OFFLOAD, &[0, 1, 0, 0, 1, b'b', b'w']), &[0]));
