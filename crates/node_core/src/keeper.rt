@@ -223,9 +223,6 @@ impl<M: Machine + Drop> Keeper<M> {
         ensures answer { let reply = (outcome self.old.node.flat head.now.pid (request_of request.now)).reply in
             TellsReply head.now (kind_of (request_of request.now)) How.Looked reply result out.new }
         ensures latest { Uses self.new.cache head.now.pid (request_of request.now) result }
-        ensures idle { OnIdle result (self.new.cache ≡ self.old.cache) }
-        ensures idle_reads { OnIdle result (reads.new ≡ reads.old) }
-        ensures idle_takes { OnIdle result (takes.new ≡ takes.old) }
         ensures hit { Hits self.old.cache head.now.pid (request_of request.now)
             → reads.new ≡ reads.old }
         ensures reads { is_access (request_of request.now) ≡ true → reads.new ≤ reads.old + 1 }
@@ -261,9 +258,6 @@ impl<M: Machine + Drop> Keeper<M> {
         ensures answer { let reply = (outcome self.old.node.flat head.now.pid (request_of request.now)).reply in
             TellsReply head.now (kind_of (request_of request.now)) How.Executed reply result out.new }
         ensures latest { Uses self.new.cache head.now.pid (request_of request.now) result }
-        ensures idle { OnIdle result (self.new.cache ≡ self.old.cache) }
-        ensures idle_reads { OnIdle result (reads.new ≡ reads.old) }
-        ensures idle_takes { OnIdle result (takes.new ≡ takes.old) }
         ensures hit { Hits self.old.cache head.now.pid (request_of request.now)
             → reads.new ≡ reads.old }
         ensures reads { is_access (request_of request.now) ≡ true → reads.new ≤ reads.old + 1 }
