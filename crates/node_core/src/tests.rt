@@ -123,7 +123,8 @@ fn step<A: Ledger, B: Ledger>(
 }
 
 /// Takes two steps at the latest moment, and tells their outcomes and whether the cache had the page's
-/// entry between them. Where it had, two reads of the page read at most one bucket together.
+/// entry between them. Where it had, two reads of the page read at most one bucket together. That the
+/// test's frames are two such reads shows in their bytes, and no clause says it.
 fn step_twice<A: Ledger, B: Ledger>(
     tried: &mut Tried,
     first: &[u8],
@@ -389,5 +390,17 @@ fn what_is_bad_is_told_by_its_first_fault(rt: HostRuntime) -> Result<(), Fail> {
     };
     let none = OffloadList::create(rt.alloc());
     assert_eq!(rt; opened(rt.alloc(), 16, 7, 4, 4, none).err(), Some(fault));
+    Ok(())
+}
+
+#[test]
+fn an_offload_without_room_is_told_by_its_number(rt: HostRuntime) -> Result<(), Fail> {
+    let mut offloads = OffloadList::create(rt.alloc());
+    offloads.push(OffloadConfig::Kv { records: 2 })?;
+    let fault = OpenFault::NoRoom {
+        offload: 0,
+        pages: 2,
+    };
+    assert_eq!(rt; opened(rt.alloc(), 1, 8, 1, 4, offloads).err(), Some(fault));
     Ok(())
 }
