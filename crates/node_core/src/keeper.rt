@@ -21,7 +21,7 @@ use cl_types::items::NoMemory;
 use cl_types::request::{RequestRef, changes};
 use cl_types::small_reply::SmallReply;
 use cl_types::steps::Steps;
-use frame_codec::{read_request, write_small};
+use frame_codec::{kind_of, read_request, write_small};
 use retry_buffer::Retry;
 use std::alloc::Global;
 use std::marker::Model;
@@ -58,20 +58,6 @@ impl<M: Machine + Drop> Model for Keeper<M> {
     ghost view = { λ k. kept_node (M.flat k.machine) (M.cache k.machine) k.retry k.last };
 
     ghost invariant = { λ k. IsSound k.retry k.last };
-}
-
-/// The kind of frame that carries the request.
-fn kind_of(request: &RequestRef) -> Kind
-    ensures { result ≡ kind_of (request_of request.now) }
-{
-    match *request {
-        RequestRef::Alloc { .. } => Kind::Alloc,
-        RequestRef::Free { .. } => Kind::Free,
-        RequestRef::Read { .. } => Kind::Read,
-        RequestRef::Write { .. } => Kind::Write,
-        RequestRef::Atomic { .. } => Kind::Atomic,
-        RequestRef::Offload { .. } => Kind::Offload,
-    }
 }
 
 impl<M: Machine + Drop> Keeper<M> {

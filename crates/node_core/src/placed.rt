@@ -15,12 +15,12 @@ use cl_types::limits::{FRAME_ROOM, PART_BYTES};
 use cl_types::numbers::Addr;
 use cl_types::reply::{Refusal, ReplyRef};
 use cl_types::small_reply::SmallReply;
-use frame_codec::{write_got, write_reply};
+use frame_codec::{HEADER_BYTES, write_got, write_reply};
 
 // How the frame of a reply lies: its header, its status of one byte, and its value. docs/FORMATS.md draws it.
 
 /// The place of a reply's status in its frame: behind the header.
-pub const STATUS_AT: usize = 26;
+pub const STATUS_AT: usize = HEADER_BYTES;
 
 /// The place of a reply's value in its frame: behind the status.
 pub const VALUE_AT: usize = STATUS_AT + 1;
