@@ -1,5 +1,5 @@
 -- A reply that was taken has no fault.
-use Rattle.std.proofs.Common.{◌≡◌, ℕ, List, Option, Some, None, refl, ◌⊎◌, inl, inr}
+use Rattle.std.proofs.Common.{◌≡◌, ℕ, List, Option, Some, None, refl, sym, ap, ◌∙◌, ◌⊎◌, inl, inr}
 use Rattle.cl_types.specs.declared.frame.BadFrame.{BadFrame}
 use Rattle.cl_types.specs.declared.reply.Part.{Part}
 use Rattle.client_core.specs.Answers.{heard_answer, heard_as}
@@ -25,6 +25,12 @@ faultless s bytes part takes = go (reply_fault bytes) takes where
   go (Some f) (inl is) = absurd cc
   go (Some f) (inr is) = absurd cc
   go None takes = refl
+
+-- of bytes with a fault, a client answers this fault
+pub fault_answered : (s : ClientState) (bytes : List ℕ) (fault : BadFrame) (answer : Heard) → Some fault ≡ reply_fault bytes
+    → answer ≡ heard_answer s (heard_as s bytes) → answer ≡ heard.Bad fault
+unfolding heard_as
+fault_answered s bytes fault answer is told = told ∙ ap (λ o. heard_answer s (heard_judged s bytes o)) (sym is)
 
 -- hearing leaves a client its number
 pub heard_client : (s : ClientState) (h : Hearing) → (state_heard s h).client ≡ s.client

@@ -5,7 +5,6 @@ ghost use Rattle.world.specs.Fields.{AreKeyed, AreSound, IsReady, world_of};
 ghost use Rattle.world.specs.Running.{IsFair, stepped};
 ghost use Rattle.world.specs.Worlds.{step};
 
-use crate::show::{garbage_at_client, garbage_at_node};
 use crate::whole::{Whole, alone};
 use cl_types::items::NoMemory;
 use cl_types::line::EventLine;
@@ -48,8 +47,8 @@ impl Whole {
             Event::Peek { pid, addr, len } => Ok(alone(self.peek(alloc, *pid, *addr, *len)?)),
             Event::Show { frame } => Ok(alone(self.show(alloc, *frame)?)),
             Event::Stat => Ok(alone(self.stat())),
-            Event::GarbageNode { bytes } => Ok(alone(garbage_at_node(alloc, bytes)?)),
-            Event::GarbageClient { bytes, .. } => Ok(alone(garbage_at_client(alloc, bytes)?)),
+            Event::GarbageNode { bytes } => self.garbage_node(alloc, bytes),
+            Event::GarbageClient { client, bytes } => self.garbage_client(alloc, *client, bytes),
         }
     }
 }

@@ -12,6 +12,7 @@
 mod ask;
 mod copies;
 mod create;
+mod garbage;
 mod happen;
 mod history;
 mod issue;

@@ -2,22 +2,18 @@
 
 ghost use Rattle.std.specs.Prelude.{◌≡◌, ◌+◌, ◌<◌, ◌≤◌, ◌^◌, IfOk, length};
 ghost use Rattle.data_path.specs.Access.{IsPiece};
-ghost use Rattle.flat_model.specs.Clients.{expanded};
-ghost use Rattle.flat_model.specs.Frames.{reply_fault, request_fault};
 ghost use Rattle.flat_model.specs.Pages.{page_of};
 ghost use Rattle.flat_model.specs.State.{page_at, used};
 ghost use Rattle.link_sim.specs.LinkFrames.{frame_at};
 ghost use Rattle.world.specs.Fields.{world_of};
 ghost use Rattle.world.specs.Running.{stepped};
-ghost use Rattle.world.specs.Worlds.{garbage, peeked, shown, ticked};
+ghost use Rattle.world.specs.Worlds.{peeked, shown, ticked};
 
-use crate::copies::{copied, expand, zeros};
+use crate::copies::{copied, zeros};
 use crate::whole::{Whole, alone};
 use cl_types::items::NoMemory;
 use cl_types::line::{Did, EventLine};
 use cl_types::numbers::{Addr, Pid};
-use cl_types::schedule::Written;
-use frame_codec::{read_reply, read_request};
 use link_sim::Got;
 use std::alloc::Global;
 
@@ -73,27 +69,5 @@ impl Whole {
             used: self.node.used(),
             retained: self.node.retained(),
         }
-    }
-}
-
-/// What a node tells of bytes that spell no request.
-pub fn garbage_at_node(alloc: Global, written: &Written) -> Result<Did, NoMemory>
-    ensures { IfOk result (λ did. did ≡ garbage (request_fault (expanded written.now))) }
-{
-    let bytes = expand(alloc, written)?;
-    match read_request(bytes.as_slice()) {
-        Err(fault) => Ok(Did::Bad { fault }),
-        Ok(_) => Ok(Did::Idle),
-    }
-}
-
-/// What a client tells of bytes that spell no reply.
-pub fn garbage_at_client(alloc: Global, written: &Written) -> Result<Did, NoMemory>
-    ensures { IfOk result (λ did. did ≡ garbage (reply_fault (expanded written.now))) }
-{
-    let bytes = expand(alloc, written)?;
-    match read_reply(bytes.as_slice()) {
-        Err(fault) => Ok(Did::Bad { fault }),
-        Ok(_) => Ok(Did::Idle),
     }
 }
