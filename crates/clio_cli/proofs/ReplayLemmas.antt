@@ -20,13 +20,13 @@ use Rattle.account_laws.specs.Schedules.{IsRisingFrom}
 use Rattle.account_laws.proofs.Lists.{each_slice_get}
 use Rattle.account_laws.proofs.Spelled.{rises_from_zero}
 use Rattle.account_laws.proofs.WindowKept.{one_account}
-use Rattle.world.specs.Follows.{StandsBehind, StandsOn, opened}
+use Rattle.world.specs.Follows.{StandsFor, StandsOn, opened}
 use Rattle.transcript_text.specs.Statuses.{HasGoodStatus}
 use Rattle.world.specs.Running.{IsFair, Running, stepped, summed_on}
 use Rattle.world.specs.Worlds.{Stepped, World, step}
-use Rattle.world.proofs.Beginning.{behind_none}
+use Rattle.world.proofs.Beginning.{stands_for_none}
 use Rattle.world.proofs.Follows.{worlds_follow}
-use Rattle.world.proofs.Standing.{behind_next}
+use Rattle.world.proofs.Standing.{stands_next}
 use Rattle.clio_cli.specs.Gathered.{Gathered}
 use Rattle.clio_cli.specs.Replay.{After, IsServed, end_text, event_text, history_text, step_text, text_of_events}
 use Rattle.clio_cli.proofs.GatherLemmas.{added_none, front_on, front_wider, gathered_all, gathered_on}
@@ -148,7 +148,7 @@ module _ (s : Schedule) (served : IsServed s) (i : ℕ) (w : Running) (held : Te
   on =
       let good : IsGood s.config (after.done ++ e ∷ []) = good_front s.config (after.done ++ e ∷ []) next.0 (subst (IsGood s.config) split served.good) in
       let place = after.place in let late = after.late in let later = event_later in let low = event_bounded in
-      worlds_follow s.config after.done e.0 e.1 w.world served.keeps good (omega (arith, place, late, later, low)) after.behind.stands
+      worlds_follow s.config after.done e.0 e.1 w.world served.keeps good (omega (arith, place, late, later, low)) after.stands.stands
 
   pub after_next : (v : Running) (left : Text) (now : Option (List ℕ)) → v.world ≡ (step w.world e.0 e.1).world → v.summary ≡ summed_on (step w.world e.0 e.1) w.summary → v.line ≡ e.0 → v.spent ≡ false
       → Gathered (held ++ event_text w.world e.0 e.1) left mid now → After s (i + 1) v left before now
@@ -159,7 +159,7 @@ module _ (s : Schedule) (served : IsServed s) (i : ℕ) (w : Running) (held : Te
     place = length-append after.done (e ∷ []) ∙ ap (λ n. n + 1) after.place;
     late = let late = after.late in let later = event_later in omega (arith, line, late, later);
     rising = subst (λ n. IsRisingFrom (n + 1) next.0) (sym line) rising.1;
-    behind = behind_next s.config after.done e.0 e.1 w v after.behind on is summary line unspent;
+    stands = stands_next s.config after.done e.0 e.1 w v after.stands on is summary line unspent;
     gathered = subst (λ (t : Text). Gathered t left before now) (sym (text_next s after.done e.0 e.1 w.world on))
         (gathered_on (text_of_events s after.done) held (event_text w.world e.0 e.1) before mid now after.gathered left gathered);
   }
@@ -181,7 +181,7 @@ after_none s w held before served first is = record {
   place = refl;
   late = omega arith;
   rising = subst (λ (x : Running). IsRisingFrom (x.line + 1) s.events) (sym first) served.good.rising;
-  behind = subst (StandsBehind s.config []) (sym first) (behind_none s.config);
+  stands = subst (StandsFor s.config []) (sym first) (stands_for_none s.config);
   gathered = record { gone = []; split = append-nil s.header ∙ sym is; written = added_none before };
 }
 
@@ -193,8 +193,8 @@ module _ (s : Schedule) (served : IsServed s) (w : Running) (held : Text) (befor
   done_is : s.events ≡ after.done
   done_is = after.split ∙ all_done after.done after.rest (after.place ∙ ap length after.split)
 
-  pub behind_the_last : StandsBehind s.config s.events w
-  behind_the_last = subst (λ es. StandsBehind s.config es w) (sym done_is) after.behind
+  pub stands_at_last : StandsFor s.config s.events w
+  stands_at_last = subst (λ es. StandsFor s.config es w) (sym done_is) after.stands
 
   -- the text of all events and the history are the transcript
   whole : text_of_events s after.done ++ history_text w.world.history ≡ transcript s
@@ -202,7 +202,7 @@ module _ (s : Schedule) (served : IsServed s) (w : Running) (held : Text) (befor
   whole =
       let a : Account = account_of_latest s.config after.done in
       append_assoc s.header (flat_map line_text a.lines) (history_text w.world.history)
-      ∙ ap (λ (h : List Entry). s.header ++ (flat_map line_text a.lines ++ history_text h)) after.behind.stands.history
+      ∙ ap (λ (h : List Entry). s.header ++ (flat_map line_text a.lines ++ history_text h)) after.stands.stands.history
       ∙ ap (λ (t : Text). s.header ++ t) (sym (account_text_is a))
       ∙ ap (λ es. s.header ++ account_text (account_of_latest s.config es)) (sym done_is)
       ∙ sym (transcript_by_latest s served)

@@ -97,7 +97,7 @@ module _ (words : List Text) (before after : Outside) (s : Schedule) (w : Runnin
   wants = subst (λ built. WantsBy built before.left after.left v) (sym asks.0) (asks.1.0, inl asks.1.1, refl)
 
   pub plays_end : (st : Status) → Plays s before.written after.written before.write_faults after.write_faults kept st → Ends words before after st
-  plays_end status.Ok (added, writes, world, left, behind) =
+  plays_end status.Ok (added, writes, world, left, stands) =
       (reads, writes, v, wants, replayed_status asks.1.0 s good, subst (λ (t : Text). Added t before.written after.written) (sym text_is) added)
   plays_end status.WriteFault (front, rose, nothing) = (rose, reads, v, wants, subst (λ (t : Text). WroteFront t before.written after.written) (sym text_is) front)
   plays_end status.NoMemory (front, writes, nothing) = (reads, writes, inr (v, wants, subst (λ (t : Text). WroteFront t before.written after.written) (sym text_is) front))
@@ -108,7 +108,7 @@ module _ (words : List Text) (before after : Outside) (s : Schedule) (w : Runnin
   plays_end status.BadNode never = absurd never
 
   pub plays_keep : (st : Status) → Plays s before.written after.written before.write_faults after.write_faults kept st → Keeps before after kept st
-  plays_keep status.Ok (added, writes, world, left, behind) = record {
+  plays_keep status.Ok (added, writes, world, left, stands) = record {
     bytes = asks.1.0;
     input = asks.1.1;
     schedule = s;
@@ -119,7 +119,7 @@ module _ (words : List Text) (before after : Outside) (s : Schedule) (w : Runnin
     same = one_account s.config s.events served.keeps (rises_from_zero s.events served.good.rising) served.good.typed;
     world = world;
     left = left;
-    behind = behind;
+    stands = stands;
   }
   plays_keep status.WriteFault (front, rose, nothing) = nothing
   plays_keep status.NoMemory (front, writes, nothing) = nothing

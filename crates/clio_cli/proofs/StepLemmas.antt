@@ -16,6 +16,7 @@ use Rattle.cl_types.specs.declared.schedule.Event.{Event}
 use Rattle.cl_types.specs.declared.schedule.Event.TheVariants as event
 use Rattle.flat_model.specs.Client.{ClientState, Outgoing, Polled, GivesUp, EndsFence, Sends, Idles, poll}
 use Rattle.flat_model.specs.Clients.{call_of, expanded}
+use Rattle.flat_model.specs.Events.{sent_text}
 use Rattle.flat_model.specs.Frames.{Item, head_in, reply_fault, request_fault, request_in, status_in}
 use Rattle.flat_model.specs.Handling.{latest}
 use Rattle.flat_model.specs.Hearing.{Hearing, HearsBad, HearsOther, HearsLate, HearsUnfit, HearsReply, hearing}
@@ -27,7 +28,7 @@ use Rattle.link_sim.specs.Got.{Found, Live, Expired, Absent, found_at}
 use Rattle.link_sim.specs.LinkFrames.{SentFrame, frame_at, next_handed, next_number}
 use Rattle.transcript_text.specs.Statuses.{HasGoodStatus}
 use Rattle.world.specs.declared.note.Note.{Note}
-use Rattle.world.specs.Worlds.{World, Stepped, arrived, call_judged, client_heard, client_in, deliver, delivered, garbage, next_frame, node_judged, node_said, note_on, out_text, peeked, polled, shown, shows, step, with_found, with_next}
+use Rattle.world.specs.Worlds.{World, Stepped, arrived, call_judged, client_heard, client_in, deliver, delivered, garbage, next_frame, node_judged, node_said, note_on, peeked, polled, frame_shown, shows, step, with_found, with_next}
 
 small : (r : Reply) → status_in r ≤ 8
 small (reply.Refused refusal.NoMapping) = omega arith
@@ -51,9 +52,9 @@ good_call : (w : World) (s : ClientState) (k : Call) (fault : Option IssueFault)
 good_call w s k None = tt
 good_call w s k (Some fault) = tt
 
-good_out : (c : ClientNo) (frame : ℕ) (o : Outgoing) → HasGoodStatus (out_text c frame o)
+good_out : (c : ClientNo) (frame : ℕ) (o : Outgoing) → HasGoodStatus (sent_text c frame o)
 good_out c frame o = go o.again where
-  go : (b : Bool) → HasGoodStatus (out_text c frame (record o { again = b }))
+  go : (b : Bool) → HasGoodStatus (sent_text c frame (record o { again = b }))
   go true = tt
   go false = tt
 
@@ -102,7 +103,7 @@ good_peek : (addr : Addr) (n : ℕ) (page : Option Page) → HasGoodStatus (peek
 good_peek addr n None = tt
 good_peek addr n (Some page) = tt
 
-good_shown : (k : ℕ) (frame : Option SentFrame) → HasGoodStatus (shown k frame)
+good_shown : (k : ℕ) (frame : Option SentFrame) → HasGoodStatus (frame_shown k frame)
 good_shown k None = tt
 good_shown k (Some frame) = tt
 

@@ -14,7 +14,7 @@ use Rattle.account_laws.specs.Times.{AreOfAge}
 use Rattle.clio_cli.specs.Run.{IsInput, Outside}
 use Rattle.clio_cli.specs.Status.{number_of}
 use Rattle.clio_cli.specs.Verdict.{IsReplayable}
-use Rattle.world.specs.Follows.{StandsBehind}
+use Rattle.world.specs.Follows.{StandsFor}
 use Rattle.world.specs.Running.{Running}
 use Rattle.clio_cli.specs.declared.left.Left.{Left}
 use Rattle.clio_cli.specs.declared.left.Left.TheVariants as left
@@ -40,7 +40,7 @@ abbrev pub LawOfHeadline : Type 0
 LawOfHeadline = (bytes : List ℕ) (s : Schedule) → schedule_of bytes ≡ Ok s → Headline s.config (account s.config s.events)
 
 -- the transcript of the schedule that the input spells was written, whole, the account that it tells keeps the headline, and
--- the world that is left stands behind the schedule's events
+-- the world that is left stands for the schedule's events
 pub record Replays (before after : Outside) (kept : Left) : Type 0 where
   pub bytes : List ℕ
   pub input : IsInput bytes before.left after.left
@@ -54,7 +54,7 @@ pub record Replays (before after : Outside) (kept : Left) : Type 0 where
   pub same : account schedule.config schedule.events ≡ account_of_latest schedule.config schedule.events
   pub world : Running
   pub left : kept ≡ left.Replayed world
-  pub behind : StandsBehind schedule.config schedule.events world
+  pub stands : StandsFor schedule.config schedule.events world
 
 -- with the status of success this came about
 abbrev pub EndsInHeadline : Outside → Outside → Left → ℕ → Type 0

@@ -11,7 +11,7 @@ use Rattle.flat_model.specs.Text.{Text, line_of}
 use Rattle.flat_model.specs.Texts.{entry_text, line_text, numbered_text, transcript}
 use Rattle.account_laws.specs.ReadSchedules.{IsGood}
 use Rattle.account_laws.specs.Schedules.{IsRisingFrom}
-use Rattle.world.specs.Follows.{StandsBehind}
+use Rattle.world.specs.Follows.{StandsFor}
 use Rattle.world.specs.Running.{Running}
 use Rattle.world.specs.Worlds.{Stepped, World, step}
 use Rattle.clio_cli.specs.Gathered.{Gathered}
@@ -47,7 +47,7 @@ pub record IsServed (s : Schedule) : Type 0 where
   pub suited : IsSuited s
   pub keeps : 1 ≤ s.config.node.retry
 
--- after i of the events: the world stands behind them, and of their text all but what is held was written
+-- after i of the events: the world stands for them, and of their text all but what is held was written
 pub record After (s : Schedule) (i : ℕ) (w : Running) (held : Text) (before now : Option (List ℕ)) : Type 0 where
   pub done : List (ℕ × Event)
   pub rest : List (ℕ × Event)
@@ -55,15 +55,17 @@ pub record After (s : Schedule) (i : ℕ) (w : Running) (held : Text) (before no
   pub place : length done ≡ i
   pub late : i ≤ w.line
   pub rising : IsRisingFrom (w.line + 1) rest
-  pub behind : StandsBehind s.config done w
+  pub stands : StandsFor s.config done w
   pub gathered : Gathered (text_of_events s done) held before now
 
--- how a replay ends, by what the sink was given and its count of faults: whole with the world that stands behind the events, or
+-- how a replay ends, by what the sink was given and its count of faults: whole with the world that stands for the events, or
 -- cut, and then nothing is left
 abbrev pub Plays : Schedule → (before after : Option (List ℕ)) → (faults faults_after : ℕ) → Left → Status → Type 0
 Plays s before after faults faults_after kept status.Ok =
     Added (transcript s) before after × (faults_after ≡ faults)
-    × (w : Running) × (kept ≡ left.Replayed w) × StandsBehind s.config s.events w
-Plays s before after faults faults_after kept status.WriteFault = WroteFront (transcript s) before after × Rose faults faults_after × (kept ≡ left.Nothing)
-Plays s before after faults faults_after kept status.NoMemory = WroteFront (transcript s) before after × (faults_after ≡ faults) × (kept ≡ left.Nothing)
+    × (w : Running) × (kept ≡ left.Replayed w) × StandsFor s.config s.events w
+Plays s before after faults faults_after kept status.WriteFault =
+    WroteFront (transcript s) before after × Rose faults faults_after × (kept ≡ left.Nothing)
+Plays s before after faults faults_after kept status.NoMemory =
+    WroteFront (transcript s) before after × (faults_after ≡ faults) × (kept ≡ left.Nothing)
 Plays s before after faults faults_after kept other = ⊥

@@ -24,7 +24,12 @@ pub record Outside : Type 0 where
 
 -- the same, of these
 abbrev pub outside : Option (List ℕ) → ℕ → Option (List ℕ) → ℕ → Outside
-outside left read_faults written write_faults = record { left = left; read_faults = read_faults; written = written; write_faults = write_faults }
+outside left read_faults written write_faults = record {
+  left = left;
+  read_faults = read_faults;
+  written = written;
+  write_faults = write_faults;
+}
 
 -- ---- the input
 -- these are all bytes of the source, which was read to its end
@@ -56,7 +61,8 @@ Wants words before after v = WantsBy (is_built_command (command_in words)) befor
 -- nothing was written, or a front of what was to be written
 abbrev pub WroteSome : List Text → Outside → Outside → Type 0
 WroteSome words before after =
-    (after.written ≡ before.written) ⊎ ((v : Verdict) × Wants words before.left after.left v × WroteFront v.text before.written after.written)
+    (after.written ≡ before.written)
+    ⊎ ((v : Verdict) × Wants words before.left after.left v × WroteFront v.text before.written after.written)
 
 -- with which status the program ends
 abbrev pub Ends : List Text → Outside → Outside → Status → Type 0

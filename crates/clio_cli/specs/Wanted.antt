@@ -31,7 +31,8 @@ Refuses v output = (verdict_of output ≡ v) × IsRefusal output.status
 
 -- a schedule asks for this: a replay where its node opens, or the text that tells why it doesn't
 abbrev pub IsOpened : Schedule → Wanted → Type 0
-IsOpened s (wanted.Told output) = (fault : OpenFault) × (open_fault s.config.node ≡ Some fault) × Refuses (verdict_at_opening s (Some fault)) output
+IsOpened s (wanted.Told output) =
+    (fault : OpenFault) × (open_fault s.config.node ≡ Some fault) × Refuses (verdict_at_opening s (Some fault)) output
 IsOpened s (wanted.Opened schedule world) = (schedule ≡ s) × (open_fault s.config.node ≡ None) × (world ≡ opened s.config)
 
 -- these bytes ask for this: the text of their verdict, or a replay of the schedule that they spell
@@ -42,7 +43,8 @@ IsAsked bytes (wanted.Opened schedule world) = IsReplayable bytes schedule × (w
 -- what a source gave asks for this
 abbrev pub AsksOf : Option (List ℕ) → Option (List ℕ) → Wanted → Type 0
 AsksOf before after (wanted.Told output) = WantsBy true before after (verdict_of output) × IsRefusal output.status
-AsksOf before after (wanted.Opened schedule world) = (bytes : List ℕ) × IsInput bytes before after × IsReplayable bytes schedule × (world ≡ opened schedule.config)
+AsksOf before after (wanted.Opened schedule world) =
+    (bytes : List ℕ) × IsInput bytes before after × IsReplayable bytes schedule × (world ≡ opened schedule.config)
 
 -- a command line asks for this of what its source gave
 abbrev pub Asks : List Text → Option (List ℕ) → Option (List ℕ) → Wanted → Type 0

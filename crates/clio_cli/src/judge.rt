@@ -44,7 +44,7 @@ pub fn output_of(alloc: Global, text: &[u8], status: Status) -> Result<Output, N
     Ok(Output { text: copy, status })
 }
 
-// For a bad line.
+// The output that tells a bad line.
 fn bad_line(alloc: Global, number: u32, what: What) -> Result<Output, NoMemory>
     ensures { IfOk result (Refuses (verdict_on_schedule (Err (number, what)))) }
 {
@@ -52,8 +52,8 @@ fn bad_line(alloc: Global, number: u32, what: What) -> Result<Output, NoMemory>
     output_of(alloc, text.as_bytes(), Status::BadInput)
 }
 
-// For too many bytes or lines.
-fn too_many(alloc: Global, of_bytes: bool, number: u32) -> Result<Output, NoMemory>
+/// The output that tells that an input has too many bytes, or too many lines.
+pub(crate) fn too_many(alloc: Global, of_bytes: bool, number: u32) -> Result<Output, NoMemory>
     ensures { IfOk result (Refuses (record {
       text = too_long_text (ScheduleFault.TooLong of_bytes number);
       status = Status.TooLong;
@@ -65,7 +65,7 @@ fn too_many(alloc: Global, of_bytes: bool, number: u32) -> Result<Output, NoMemo
     output_of(alloc, b"too long: lines 200001\n", Status::TooLong)
 }
 
-// For a node that doesn't open.
+// The output that tells why the node of a schedule doesn't open.
 fn bad_node(alloc: Global, schedule: &Schedule, fault: OpenFault) -> Result<Output, NoMemory>
     ensures { IfOk result (Refuses (verdict_at_opening schedule.now (Some fault))) }
 {
@@ -88,7 +88,7 @@ fn open(alloc: Global, config: &Config) -> Result<Result<World, OpenFault>, NoMe
     }
 }
 
-// For a schedule.
+// What a schedule asks for.
 fn judge_schedule(alloc: Global, schedule: Schedule) -> Result<Wanted, NoMemory>
     requires { HaveNumbersApart schedule.config }
     ensures { IfOk result (IsOpened schedule) }

@@ -4,7 +4,7 @@ ghost use Rattle.std.specs.Prelude.{◌≡◌, ◌++◌, ◌∷◌, ◌^◌, ◌
 ghost use Rattle.cl_outside.specs.Loops.{WroteFront};
 ghost use Rattle.cl_outside.specs.Told.{Added};
 ghost use Rattle.flat_model.specs.Texts.{entry_text, transcript};
-ghost use Rattle.world.specs.Follows.{StandsBehind, opened};
+ghost use Rattle.world.specs.Follows.{StandsFor, opened};
 ghost use Rattle.world.specs.Running.{IsFair, summed_on};
 ghost use Rattle.world.specs.Worlds.{step};
 ghost use Rattle.clio_cli.specs.Gathered.{CountsCut, Gathered};
@@ -177,7 +177,7 @@ fn print_history<K: Sink>(
     print_end(alloc, history.len(), held, sink)
 }
 
-// Writes the transcript, and leaves the world behind the last event.
+// Writes the transcript, and leaves the world that stands for its events.
 fn write_transcript<K: Sink>(
     alloc: Global,
     schedule: &Schedule,
@@ -188,8 +188,8 @@ fn write_transcript<K: Sink>(
     requires opened { world.old ≡ opened schedule.now.config }
     ensures printed { OnOk result
         (Added (transcript schedule.now) (K.written sink.old) (K.written sink.new)) }
-    ensures behind { OnOk result
-        (StandsBehind schedule.now.config schedule.now.events world.new) }
+    ensures stands { OnOk result
+        (StandsFor schedule.now.config schedule.now.events world.new) }
     ensures front { OnErr result
         (WroteFront (transcript schedule.now) (K.written sink.old) (K.written sink.new)) }
     ensures counted { CountsCut (K.faults sink.old) (K.faults sink.new) result }
@@ -201,7 +201,7 @@ fn write_transcript<K: Sink>(
 }
 
 /// Writes the transcript of a schedule over its world at the opening, and tells how that ended.
-/// With success the world is left as it stands behind the last event.
+/// With success the world is left that stands for all its events.
 pub fn play<K: Sink>(
     alloc: Global,
     schedule: &Schedule,

@@ -8,19 +8,21 @@ ghost use Rattle.clio_cli.specs.Verdict.{HasBadNode, IsRefused, IsTooLong};
 ghost use Rattle.clio_cli.specs.Wanted.{Asks, AsksOf, CountsHalt, Keeps};
 ghost use Rattle.clio_cli.specs.Words.{is_built_command};
 
-use crate::judge::{Wanted, judge, output_of};
+use crate::judge::{Wanted, judge, output_of, too_many};
 use crate::left::Left;
 use crate::replay::play;
 use crate::status::Status;
 use crate::words::Words;
-use cl_outside::{Sink, Source, Stop, read_input, write_all};
+use cl_outside::{INPUT_LIMIT, Sink, Source, Stop, read_input, write_all};
 use cl_types::items::NoMemory;
 use std::alloc::Global;
 
 /// Why nothing is to be written.
 #[derive(Clone, Copy)]
 enum Halt {
+    /// A read failed: the source's count of faults rose.
     ReadFault,
+    /// There was no memory.
     NoMemory,
 }
 
@@ -43,10 +45,7 @@ fn asked<S: Source>(alloc: Global, source: &mut S) -> Result<Wanted, Halt>
     match read_input(alloc, source) {
         Ok(bytes) => Ok(judge(alloc, &bytes)?),
         Err(Stop::ReadFault) => Err(Halt::ReadFault),
-        Err(Stop::TooLong) => {
-            let text = b"too long: bytes 16777217\n";
-            Ok(Wanted::Told(output_of(alloc, text, Status::TooLong)?))
-        }
+        Err(Stop::TooLong) => Ok(Wanted::Told(too_many(alloc, true, INPUT_LIMIT as u32 + 1)?)),
         Err(Stop::NoMemory) => Err(Halt::NoMemory),
         Err(Stop::WriteFault) => unreachable!(),
     }

@@ -20,7 +20,7 @@ use Rattle.node_core.specs.Keeping.{KeptNode}
 use Rattle.data_path.specs.Store.{no_entries}
 use Rattle.flat_model.specs.Clients.{pid_of}
 use Rattle.world.specs.Fields.{AreSound, IsSound, IsWithin, numbers_of, world_around, world_of}
-use Rattle.world.specs.Follows.{StandsBehind, new_world, opened}
+use Rattle.world.specs.Follows.{StandsFor, new_world, opened}
 use Rattle.world.specs.Running.{HaveNumbersApart, IsFair}
 use Rattle.world.specs.Worlds.{World, step}
 use Rattle.world.specs.declared.whole.Whole.{Whole}
@@ -39,9 +39,6 @@ own_client g = new_client g.0 g.1
 
 same_self : (n : ℕ) → (n == n) ≡ true
 same_self n = grind (arith, nat_tests)
-
-turned : (m n : ℕ) → (m == n) ≡ false → (n == m) ≡ false
-turned m n h = grind (arith, nat_tests)
 
 first_of : (b c : Bool) → (b || c) ≡ false → b ≡ false
 first_of true c h = absurd cc
@@ -141,9 +138,9 @@ begun config n apart is = λ i. record {
   history = [];
 }
 
--- it stands behind no event
-pub behind_none : (config : Config) → StandsBehind config [] (opened config)
-behind_none config = record {
+-- it stands for no event
+pub stands_for_none : (config : Config) → StandsFor config [] (opened config)
+stands_for_none config = record {
   stands = record { moment = refl; node = node_opens; clients = refl; frames = refl; handed_out = refl; notes = tt; history = refl };
   summary = refl;
   line = refl;

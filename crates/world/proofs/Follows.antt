@@ -31,7 +31,7 @@ use Rattle.flat_model.proofs.RequestFrameLemmas.{requests_are_read_again}
 use Rattle.flat_model.specs.Account.{Account, Carried, Effect, Frame, Load, Asks, Answers, asks_next, end_of, extended, found_none, frame_at, is_before, memory_at, next_frame_number, nothing_yet, now, recorded, says, taken_in_order, ticks_of, with_entries, with_entry}
 use Rattle.flat_model.specs.Client.{ClientState, ClientCall, ClientPart, Outgoing, Polled, GivesUp, EndsFence, Sends, Idles, Sending, after_issue, after_poll, after_reply, again, anew, fence_first, flight_under, flights, handed_out, has_room_in_flight, head_of, next_id, poll, same_client, sendable, to_give_up, to_send, to_send_again}
 use Rattle.flat_model.specs.Clients.{call_of, client_at, expanded, pid_of}
-use Rattle.flat_model.specs.Events.{account, account_from, account_of_latest, effect, handed, if_live, if_there, next_account, nothing_happens, on_call, on_delivery, on_flight, on_found_page, on_frame, on_garbage, on_judged, on_peek, on_polled, on_reply, sent_text, shown as shown_frame, then_also}
+use Rattle.flat_model.specs.Events.{account, account_from, account_of_latest, effect, handed, if_live, if_there, next_account, nothing_happens, on_call, on_delivery, on_flight, on_found_page, on_frame, on_garbage, on_judged, on_peek, on_polled, on_reply, sent_text, shown, then_also}
 use Rattle.flat_model.specs.FrameLaws.{ReadsAsReply, ReadsAsRequest}
 use Rattle.flat_model.specs.Frames.{Item, head_in, kind_of, status_in, reply_fault, request_fault, request_in, reply_in}
 use Rattle.flat_model.specs.Handling.{latest}
@@ -61,8 +61,8 @@ use Rattle.account_laws.proofs.Spelled.{frames_are_spelled, replies_are_heard, r
 use Rattle.account_laws.proofs.TimesKept.{frame_at_each}
 use Rattle.account_laws.proofs.WindowKept.{one_account}
 use Rattle.world.specs.declared.note.Note.{Note}
-use Rattle.world.specs.Worlds.{World, Stepped, arrived, call_judged, client_heard, client_in, deliver, delivered, garbage, node_judged, node_said, node_stepped, note_on, out_text, peeked, polled, shown, shows, step, taken_entry, with_client, with_found, with_next}
-use Rattle.world.specs.Follows.{HaveNotes, IsNoteOf, Stands, StandsOn, WorldsFollow, sent_as}
+use Rattle.world.specs.Worlds.{World, Stepped, arrived, call_judged, client_heard, client_in, deliver, delivered, garbage, node_judged, node_said, node_stepped, note_on, peeked, polled, frame_shown, shows, step, taken_entry, with_client, with_found, with_next}
+use Rattle.world.specs.Follows.{HaveNotes, IsNoteOf, IsReadOff, StandsOn, WorldsFollow, sent_as}
 
 -- ---- clients
 turned : (m n : ℕ) → (m == n) ≡ (n == m)
@@ -256,9 +256,6 @@ module _ (config : Config) (a : Account) (l : ℕ) where
     ),
   ) tt
 
-  out_said : (c : ClientNo) (k m : ℕ) (o : Outgoing) → k ≡ m → sent_text c m o ≡ out_text c k o
-  out_said c k m o is = ap (λ n. cond o.again (did.Again n c o.part o.id o.orig) (did.Sent n c o.part o.id)) (sym is)
-
   poll_agrees : (c : ClientNo) (notes : List Note) (handed : ℕ) → HaveNotes a.frames notes → (p : Polled) → IsSingle p
       → Agree (event.Poll c) (node_at config a) (λ (d : ClientNo × ℕ). cond (same_client d.0 c) (handed_out (after_poll (now a l) p (client_at config a d.0))) (client_at config a d.0)) handed
       (on_polled a l (client_at config a c) p) (polled (read notes handed) l (client_at config a c) p)
@@ -302,7 +299,7 @@ module _ (config : Config) (a : Account) (l : ℕ) where
       one : (o : Outgoing) → Agree (event.Poll c) (node_at config a) (λ (d : ClientNo × ℕ). cond (same_client d.0 c) (handed_out (after_poll (now a l) (Sends (o ∷ [])) (client_at config a d.0))) (client_at config a d.0)) handed
           (on_polled a l (client_at config a c) (Sends (o ∷ []))) (polled (read notes handed) l (client_at config a c) (Sends (o ∷ [])))
       one o = record {
-        told = ap (λ d. d ∷ []) (out_said c (length (map sent_as a.frames) + 1) (next_frame_number a) o (ap (λ n. n + 1) (map-length sent_as a.frames)));
+        told = ap (λ d. d ∷ []) (ap (λ n. sent_text c n o) (sym (ap (λ n. n + 1) (map-length sent_as a.frames))));
         ended = refl;
         moment = let z : now a l ≡ now a l + 0 = omega arith in z;
         node = refl;
@@ -595,9 +592,9 @@ module _ (config : Config) (a : Account) (l : ℕ) where
     go None = refl
     go (Some page) = refl
 
-  shown_is : (k : ℕ) → shown_frame k (frame_at a k) ≡ says (shown k (link_frame (record { frames = map sent_as a.frames; handed_out = taken_in_order a }) k))
-  shown_is k = go (frame_at a k) ∙ ap (λ o. says (shown k o)) (sym (linked k)) where
-    go : (o : Option Frame) → shown_frame k o ≡ says (shown k (option_map sent_as o))
+  shown_is : (k : ℕ) → shown k (frame_at a k) ≡ says (frame_shown k (link_frame (record { frames = map sent_as a.frames; handed_out = taken_in_order a }) k))
+  shown_is k = go (frame_at a k) ∙ ap (λ o. says (frame_shown k o)) (sym (linked k)) where
+    go : (o : Option Frame) → shown k o ≡ says (frame_shown k (option_map sent_as o))
     go None = refl
     go (Some f) = refl
 
@@ -711,7 +708,7 @@ module _ (config : Config) (a : Account) (l : ℕ) where
   )
   every_step (event.Show k) here notes have = (
     taken_in_order a,
-    show_agrees (event.Show k) (shown k (link_frame (record { frames = map sent_as a.frames; handed_out = taken_in_order a }) k)) (shown_frame k (frame_at a k)) notes have refl (shown_is k),
+    show_agrees (event.Show k) (frame_shown k (link_frame (record { frames = map sent_as a.frames; handed_out = taken_in_order a }) k)) (shown k (frame_at a k)) notes have refl (shown_is k),
     none_more,
   )
   every_step event.Stat here notes have = (
@@ -733,7 +730,7 @@ module _ (config : Config) (a : Account) (l : ℕ) where
 
   -- ---- the world after
   stands_next : (event : Event) → (here : Here config a l event) → (notes : List Note) → (s : StepAgrees event notes)
-      → Stands config (next_account (latest config.node.retry) config a (l, event)) (step (read notes (taken_in_order a)) l event).world
+      → IsReadOff config (next_account (latest config.node.retry) config a (l, event)) (step (read notes (taken_in_order a)) l event).world
   stands_next event here notes s = record {
     moment = s.1.moment ∙ ap (λ n. n + ticks_of event) (now_clock a l here.base.times.rising) ∙ sym (clock_extended a l event (effect (latest config.node.retry) config a l event));
     node = s.1.node ∙ sym here.node.node;
@@ -794,6 +791,6 @@ worlds_follow config events l event w some good few st =
     record {
       told = s.1.told;
       ended = s.1.ended;
-      stands = subst (λ x. Stands config x (step (read config (account_of_latest config events) l w.notes (taken_in_order (account_of_latest config events))) l event).world)
+      stands = subst (λ x. IsReadOff config x (step (read config (account_of_latest config events) l w.notes (taken_in_order (account_of_latest config events))) l event).world)
           (sym (from_append (latest config.node.retry) config nothing_yet events (l, event))) (stands_next config (account_of_latest config events) l event here w.notes s);
     })

@@ -53,34 +53,6 @@ module _ (l q : ℕ) where
         go false h rest = absurd cc
 
 -- ---- an entry more
-place_kept : (x e : Entry) → is_before e.line e.position x ≡ true → is_before x.line x.position e ≡ false
-place_kept x e h = grind (arith, nat_tests)
-
-place_new : (x e y : Entry) → is_before e.line e.position x ≡ false → is_before x.line x.position y ≡ false → is_before e.line e.position y ≡ false
-place_new x e y h k = grind (arith, nat_tests)
-
-each_with_entry : (P : Entry → Type 0) (e : Entry) (h : List Entry) → P e → Each P h → Each P (with_entry e h)
-each_with_entry P e [] p all = (p, tt)
-each_with_entry P e (x ∷ h) p all = go (is_before e.line e.position x) (each_with_entry P e h p all.1) where
-  go : (b : Bool) → Each P (with_entry e h) → Each P (elim b [ true ↦ x ∷ with_entry e h | false ↦ e ∷ x ∷ h ])
-  go true rest = (all.0, rest)
-  go false rest = (p, all)
-
-each_weaker : (P Q : Entry → Type 0) → ((y : Entry) → P y → Q y) → (h : List Entry) → Each P h → Each Q h
-each_weaker P Q f [] all = tt
-each_weaker P Q f (x ∷ h) all = (f x all.0, each_weaker P Q f h all.1)
-
--- a history with an entry more in its place is in order
-pub order_with_entry : (e : Entry) (h : List Entry) → IsInOrder h → IsInOrder (with_entry e h)
-order_with_entry e [] order = (tt, tt)
-order_with_entry e (x ∷ h) order = go (is_before e.line e.position x) refl (order_with_entry e h order.1) where
-  go : (b : Bool) → is_before e.line e.position x ≡ b → IsInOrder (with_entry e h) → IsInOrder (elim b [ true ↦ x ∷ with_entry e h | false ↦ e ∷ x ∷ h ])
-  go true is rest = (each_with_entry (λ (y : Entry). is_before x.line x.position y ≡ false) e h (place_kept x e is) order.0, rest)
-  go false is rest = (
-    (is, each_weaker (λ (y : Entry). is_before x.line x.position y ≡ false) (λ (y : Entry). is_before e.line e.position y ≡ false) (λ y k. place_new x e y is k) h order.0),
-    order,
-  )
-
 -- an entry that is inserted before the first that doesn't stand before it
 pub inserted : (e : Entry) (h : List Entry) → insert h (position_or_len (λ x. not (is_before e.line e.position x)) h) e ≡ with_entry e h
 inserted e [] = refl

@@ -1,5 +1,5 @@
 -- The first fault of a call whose buffer is too long.
-use Rattle.std.proofs.Common.{◌≡◌, ℕ, ◌-◌, ◌*◌, ◌^◌, ◌<◌, ◌≤◌, true, false, Option, Some, None, Ok, Err, refl, ap, length, arith}
+use Rattle.std.proofs.Common.{◌≡◌, ℕ, ◌-◌, ◌^◌, ◌<◌, ◌≤◌, true, false, Option, Some, None, Ok, Err, refl, ap, length, arith}
 use Rattle.std.specs.Prelude.{◌==◌, Result, min, nat_lt}
 use Rattle.std.proofs.lemmas.Bool.Decides.{nat_tests}
 use Rattle.std.proofs.lemmas.List.{length-replicate}
@@ -18,7 +18,6 @@ use Rattle.flat_model.specs.Clients.{call_of, expanded}
 use Rattle.flat_model.specs.Faults.{first_fault}
 use Rattle.flat_model.specs.Issue.{as_far_as_told, bytes_faults, call_faults}
 use Rattle.world.specs.Saying.{issue_did}
-use Rattle.world.proofs.CopyLemmas.{length_written as length_of_written}
 
 -- more bytes than a call may have
 long : (addr : Addr) (n : ℕ) → CALL_BYTES < n → n < 2 ^ 32 → first_fault (bytes_faults addr n CALL_BYTES n) ≡ Some (fault.TooLong n)
@@ -55,9 +54,6 @@ long_answer number op out w n above fits few is =
     let more : nat_lt PART_BYTES out ≡ true = grind (arith, nat_tests) in
     let told : as_far_as_told out ≡ out = grind (arith, nat_tests) in
     rw (less, length-replicate {A = ℕ} out 0, more, told) refl
-
-pub length_written : (w : Written) → length (expanded w) ≡ length w.bytes * w.times
-length_written w = length_of_written w
 
 -- a call leaves a client its number
 pub issued_client : (s : ClientState) (k : Call) (o : Option IssueFault) → (issue_state s k o).client ≡ s.client

@@ -11,7 +11,7 @@ use Rattle.flat_model.specs.Account.{Account, Effect, extended, nothing_yet}
 use Rattle.flat_model.specs.Events.{account_of_latest, effect}
 use Rattle.flat_model.specs.Handling.{latest}
 use Rattle.flat_model.specs.Summaries.{summary_of}
-use Rattle.world.specs.Follows.{Stands, StandsBehind, StandsOn, Tells, last_line}
+use Rattle.world.specs.Follows.{IsReadOff, StandsFor, StandsOn, TellsLine, last_line}
 use Rattle.world.specs.Running.{Running, stepped, summed_on}
 use Rattle.world.specs.Summed.{summed}
 use Rattle.world.specs.Worlds.{Stepped, step}
@@ -44,27 +44,27 @@ module _ (config : Config) (events : List (ℕ × Event)) (l : ℕ) (e : Event) 
       ∙ sym (summary_next before l e brought s.did s.ended on.told on.ended)
       ∙ ap summary_of (sym same)
 
-  -- a world that stands behind events stands, after a step, behind these and one more
-  pub behind_next : (w v : Running) → StandsBehind config events w → StandsOn config events l e (step w.world l e)
-      → v.world ≡ (step w.world l e).world → v.summary ≡ summed_on (step w.world l e) w.summary → v.line ≡ l → v.spent ≡ false → StandsBehind config (events ++ (l, e) ∷ []) v
-  behind_next w v behind on world summary line unspent = record {
-    stands = subst (Stands config (account_of_latest config (events ++ (l, e) ∷ []))) (sym world) on.stands;
-    summary = summary ∙ summary_on (step w.world l e) w.summary on behind.summary;
+  -- a world that stands for events stands, after a step, for these and one more
+  pub stands_next : (w v : Running) → StandsFor config events w → StandsOn config events l e (step w.world l e)
+      → v.world ≡ (step w.world l e).world → v.summary ≡ summed_on (step w.world l e) w.summary → v.line ≡ l → v.spent ≡ false → StandsFor config (events ++ (l, e) ∷ []) v
+  stands_next w v stands on world summary line unspent = record {
+    stands = subst (IsReadOff config (account_of_latest config (events ++ (l, e) ∷ []))) (sym world) on.stands;
+    summary = summary ∙ summary_on (step w.world l e) w.summary on stands.summary;
     line = line ∙ sym (last_of events (l, e));
     unspent = unspent;
   }
 
   -- so it is with an event that was told
-  pub behind_on : {E : Type 0} (w v : Running) (r : Result EventLine E) → l < 2 ^ 29 → IfOk r (λ told. stepped told v.world ≡ step w.world l e)
+  pub stands_on : {E : Type 0} (w v : Running) (r : Result EventLine E) → l < 2 ^ 29 → IfOk r (λ told. stepped told v.world ≡ step w.world l e)
       → IfOk r (λ told. v.summary ≡ summed_on (stepped told v.world) w.summary) → v.line ≡ l → v.spent ≡ false
-      → 1 ≤ config.node.retry → IsGood config (events ++ (l, e) ∷ []) → StandsBehind config events w
-      → IfOk r (λ told. Tells config events l e told × StandsBehind config (events ++ (l, e) ∷ []) v)
-  behind_on w v r early is summary line unspent retry good behind =
+      → 1 ≤ config.node.retry → IsGood config (events ++ (l, e) ∷ []) → StandsFor config events w
+      → IfOk r (λ told. TellsLine config events l e told × StandsFor config (events ++ (l, e) ∷ []) v)
+  stands_on w v r early is summary line unspent retry good stands =
       let count : 1 + length events ≤ l = few_events 1 events l e good.rising in
       let few : length events + 1 < 2 ^ 64 = omega (arith, count, early) in
-      let on : StandsOn config events l e (step w.world l e) = worlds_follow config events l e w.world retry good few behind.stands in
+      let on : StandsOn config events l e (step w.world l e) = worlds_follow config events l e w.world retry good few stands.stands in
       if_ok_two _ _ _ r
       (λ told same counts. (
         record { texts = on.told ∙ ap (λ (s : Stepped). s.did ∷ []) (sym same); ended = on.ended ∙ ap (λ (s : Stepped). s.ended) (sym same) },
-        behind_next w v behind on (ap (λ (s : Stepped). s.world) same) (counts ∙ ap (λ (s : Stepped). summed_on s w.summary) same) line unspent,
+        stands_next w v stands on (ap (λ (s : Stepped). s.world) same) (counts ∙ ap (λ (s : Stepped). summed_on s w.summary) same) line unspent,
       )) is summary

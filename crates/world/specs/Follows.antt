@@ -37,7 +37,7 @@ HaveNotes (f ∷ frames) (note ∷ notes) = IsNoteOf f.load note × HaveNotes fr
 HaveNotes frames notes = ⊥
 
 -- the world is what is read off an account
-pub record Stands (config : Config) (a : Account) (w : World) : Type 0 where
+pub record IsReadOff (config : Config) (a : Account) (w : World) : Type 0 where
   pub moment : w.moment ≡ clock a
   pub node : w.node ≡ node_at config a
   pub clients : w.clients ≡ map (λ given. client_at config a given.0) config.clients
@@ -59,21 +59,21 @@ new_world config = record {
 
 -- it stands for no event
 abbrev pub WorldsBegin : Type 0
-WorldsBegin = (config : Config) → Stands config (account_of_latest config []) (new_world config)
+WorldsBegin = (config : Config) → IsReadOff config (account_of_latest config []) (new_world config)
 
 -- ---- what an event leaves
 -- the step is what the account tells of the event, and leaves the world standing for one event more
 pub record StandsOn (config : Config) (events : List (ℕ × Event)) (l : ℕ) (event : Event) (s : Stepped) : Type 0 where
   pub told : (effect (latest config.node.retry) config (account_of_latest config events) l event).texts ≡ s.did ∷ []
   pub ended : (effect (latest config.node.retry) config (account_of_latest config events) l event).ended ≡ s.ended
-  pub stands : Stands config (account_of_latest config (events ++ (l, event) ∷ [])) s.world
+  pub stands : IsReadOff config (account_of_latest config (events ++ (l, event) ∷ [])) s.world
 
 -- a world that stands for events stands, after a step, for these and one more, and the step tells its line
 abbrev pub WorldsFollow : Type 0
 WorldsFollow =
     (config : Config) (events : List (ℕ × Event)) (l : ℕ) (event : Event) (w : World)
     → 1 ≤ config.node.retry → IsGood config (events ++ (l, event) ∷ []) → length events + 1 < 2 ^ 64
-    → Stands config (account_of_latest config events) w
+    → IsReadOff config (account_of_latest config events) w
     → StandsOn config events l event (step w l event)
 
 -- ---- a running world
@@ -87,15 +87,15 @@ last_line [] = 0
 last_line (e ∷ []) = e.0
 last_line (e ∷ f ∷ events) = last_line (f ∷ events)
 
--- the world stands behind these events: it is read off their account, its counts are the account's, its line is the last of
+-- the world stands for these events: it is read off their account, its counts are the account's, its line is the last of
 -- theirs, and it isn't spent
-pub record StandsBehind (config : Config) (events : List (ℕ × Event)) (w : Running) : Type 0 where
-  pub stands : Stands config (account_of_latest config events) w.world
+pub record StandsFor (config : Config) (events : List (ℕ × Event)) (w : Running) : Type 0 where
+  pub stands : IsReadOff config (account_of_latest config events) w.world
   pub summary : w.summary ≡ summary_of (account_of_latest config events)
   pub line : w.line ≡ last_line events
   pub unspent : w.spent ≡ false
 
--- the line of an event behind these is that of their account
-pub record Tells (config : Config) (events : List (ℕ × Event)) (l : ℕ) (event : Event) (told : EventLine) : Type 0 where
+-- the line of an event after these is that of their account
+pub record TellsLine (config : Config) (events : List (ℕ × Event)) (l : ℕ) (event : Event) (told : EventLine) : Type 0 where
   pub texts : (effect (latest config.node.retry) config (account_of_latest config events) l event).texts ≡ told.did ∷ []
   pub ended : (effect (latest config.node.retry) config (account_of_latest config events) l event).ended ≡ told.ended

@@ -5,6 +5,7 @@ use Rattle.cl_types.specs.declared.frame.Head.{Head}
 use Rattle.cl_types.specs.declared.frame.How.{How}
 use Rattle.cl_types.specs.declared.frame.How.TheVariants as how
 use Rattle.cl_types.specs.declared.frame.IssueFault.{IssueFault}
+use Rattle.cl_types.specs.declared.limits.TheConstants.{FRAME_ROOM}
 use Rattle.cl_types.specs.declared.line.Did.{Did}
 use Rattle.cl_types.specs.declared.line.Did.TheVariants as did
 use Rattle.cl_types.specs.declared.line.Entry.{Entry}
@@ -53,14 +54,15 @@ IsTurned s t (GivesUp f) (turned.Quiet line) out =
 IsTurned s t (EndsFence n) (turned.Quiet line) out =
     (line.did ≡ did.FenceEnded) × (line.ended ≡ end_told s.client (after_poll t (EndsFence n) s).ended)
 IsTurned s t (Sends (o ∷ [])) (turned.Sends len part id orig again) out =
-    (part ≡ o.part) × (id ≡ o.id) × (orig ≡ o.orig) × (again ≡ o.again) × (take len out ≡ request_frame (head_of s.client s.pid o) o.request)
+    (part ≡ o.part) × (id ≡ o.id) × (orig ≡ o.orig) × (again ≡ o.again)
+    × (take len out ≡ request_frame (head_of s.client s.pid o) o.request)
 IsTurned s t Idles (turned.Quiet line) out = (line.did ≡ did.Idle) × (line.ended ≡ None)
 -- nothing else is told
 IsTurned s t polled told out = ⊥
 
 -- a frame that is sent is short enough for the buffer
 abbrev pub IsShortTurn : Turned → Type 0
-IsShortTurn (turned.Sends len part id orig again) = len ≤ 1200
+IsShortTurn (turned.Sends len part id orig again) = len ≤ FRAME_ROOM
 IsShortTurn other = Unit {0}
 
 -- the step of a poll that told this, in the world in which the client stands as it does after it
@@ -91,7 +93,15 @@ looked_in other = None
 -- the history after it: an execution is entered at once
 abbrev pub entered_in : Made → (l : ℕ) → Head → Part → List Entry → List Entry
 entered_in (made.Executed request reply) l head part h =
-    with_entry (record { line = l; position = 0; client = head.client; pid = head.pid; part = part; request = request; reply = reply }) h
+    with_entry (record {
+      line = l;
+      position = 0;
+      client = head.client;
+      pid = head.pid;
+      part = part;
+      request = request;
+      reply = reply;
+    }) h
 entered_in other l head part h = h
 
 -- what the node said to the item is told so, the reply's frame at the start of the buffer
@@ -128,8 +138,10 @@ IsReadable other out = Unit {0}
 -- the step of an answer of the node
 abbrev pub answered_step : World → (l k : ℕ) → Part → Answered → List ℕ → Stepped
 answered_step w l k part a out =
+    let after : World = record w { history = entered_in a.made l a.head part w.history } in
+    let note : Note = record { part = part; looked = looked_in a.made } in
     shows
-    (sends_frame (record w { history = entered_in a.made l a.head part w.history }) l (to.Client a.head.client) (take a.len out) (record { part = part; looked = looked_in a.made }))
+    (sends_frame after l (to.Client a.head.client) (take a.len out) note)
     (did.Handled k a.head.client part (how_in a.made) a.status (next_frame w))
 
 -- the step of what the node said to frame k, in the world with the node after it
@@ -147,7 +159,15 @@ state_heard s other = s
 -- the entry of a look whose reply was taken, by the line of the look
 abbrev pub look_entry : ℕ → List ℕ → Note → Option Entry
 look_entry line bytes note =
-    option_map (λ r. record { line = line; position = 0; client = (head_in bytes).client; pid = (head_in bytes).pid; part = note.part; request = r; reply = reply_in bytes }) note.looked
+    option_map (λ r. record {
+      line = line;
+      position = 0;
+      client = (head_in bytes).client;
+      pid = (head_in bytes).pid;
+      part = note.part;
+      request = r;
+      reply = reply_in bytes;
+    }) note.looked
 
 -- the history with the entry, where there is one
 abbrev pub with_look : Option Entry → List Entry → List Entry

@@ -22,8 +22,9 @@ use Rattle.cl_types.specs.declared.schedule.Event.TheVariants as event
 use Rattle.link_sim.specs.Got.{Found, Live, Expired, Absent, found_at}
 use Rattle.link_sim.specs.LinkFrames.{LinkFrames, SentFrame, frame_at, next_handed, next_number, sent_on}
 use Rattle.flat_model.specs.Account.{with_entry}
-use Rattle.flat_model.specs.Client.{ClientState, Outgoing, Polled, GivesUp, EndsFence, Sends, after_issue, after_poll, after_reply, end_told, handed_out, head_of, poll, same_client}
+use Rattle.flat_model.specs.Client.{ClientState, Polled, GivesUp, EndsFence, Sends, after_issue, after_poll, after_reply, end_told, handed_out, head_of, poll, same_client}
 use Rattle.flat_model.specs.Clients.{call_of, expanded}
+use Rattle.flat_model.specs.Events.{sent_text}
 use Rattle.flat_model.specs.Frames.{Item, head_in, kind_of, reply_fault, reply_frame, reply_in, request_fault, request_frame, request_in, status_in}
 use Rattle.flat_model.specs.Handling.{latest}
 use Rattle.flat_model.specs.Hearing.{Hearing, HearsBad, HearsOther, HearsLate, HearsUnfit, HearsReply, hearing}
@@ -71,7 +72,10 @@ client_stands w s = record w { clients = with_client (handed_out s) w.clients }
 -- the world in which a frame was sent now on line l, with its note
 abbrev pub sends_frame : World → ℕ → End → List ℕ → Note → World
 sends_frame w l end bytes note =
-    record w { link = sent_on w.link (record { moment = w.moment; end = end; bytes = bytes; line = l }); notes = w.notes ++ note ∷ [] }
+    record w {
+      link = sent_on w.link (record { moment = w.moment; end = end; bytes = bytes; line = l });
+      notes = w.notes ++ note ∷ [];
+    }
 
 -- the number of the frame that is sent next
 abbrev pub next_frame : World → ℕ
@@ -86,11 +90,9 @@ with_found w (Some s) go = go s
 -- a call was judged: it is issued where there is no fault
 abbrev pub call_judged : World → ClientState → Call → Option IssueFault → Stepped
 call_judged w s k (Some fault) = shows w (did.NotIssued fault)
-call_judged w s k None = shows (record w { clients = with_client (after_issue k s) w.clients }) (did.Issued s.client (record { 0 = s.issued + 1 }))
-
--- what is told of a part that went out in this frame
-abbrev pub out_text : ClientNo → ℕ → Outgoing → Did
-out_text c frame o = if o.again then did.Again frame c o.part o.id o.orig else did.Sent frame c o.part o.id
+call_judged w s k None =
+    shows (record w { clients = with_client (after_issue k s) w.clients })
+    (did.Issued s.client (record { 0 = s.issued + 1 }))
 
 -- a poll of a client did this
 abbrev pub polled : World → ℕ → ClientState → Polled → Stepped
@@ -101,8 +103,9 @@ polled w l s (EndsFence n) =
     let after : ClientState = after_poll w.moment (EndsFence n) s in
     record { did = did.FenceEnded; ended = end_told s.client after.ended; world = client_stands w after }
 polled w l s (Sends (o ∷ items)) =
-    shows (sends_frame (client_stands w (after_poll w.moment (Sends (o ∷ items)) s)) l to.Node (request_frame (head_of s.client s.pid o) o.request) (record { part = o.part; looked = None }))
-    (out_text s.client (next_frame w) o)
+    let after : World = client_stands w (after_poll w.moment (Sends (o ∷ items)) s) in
+    let bytes : List ℕ = request_frame (head_of s.client s.pid o) o.request in
+    shows (sends_frame after l to.Node bytes (record { part = o.part; looked = None })) (sent_text s.client (next_frame w) o)
 polled w l s other = shows (client_stands w (after_poll w.moment other s)) did.Idle
 
 -- ---- a frame at the node
@@ -113,7 +116,15 @@ looked_by other r = None
 
 -- an entry of the item of frame k, which carries this part, on line l
 abbrev pub entry_of : ℕ → Part → Item → Reply → Entry
-entry_of l part i reply = record { line = l; position = 0; client = i.head.client; pid = i.head.pid; part = part; request = i.request; reply = reply }
+entry_of l part i reply = record {
+  line = l;
+  position = 0;
+  client = i.head.client;
+  pid = i.head.pid;
+  part = part;
+  request = i.request;
+  reply = reply;
+}
 
 -- the history after an item was answered so: an execution is entered at once
 abbrev pub entered : How → Entry → List Entry → List Entry
@@ -124,8 +135,10 @@ entered other e h = h
 abbrev pub node_said : World → (l k : ℕ) → Part → Item → Said → Stepped
 node_said w l k part i (IsBusy oldest at) = shows w (did.Busy k i.head.client part oldest at)
 node_said w l k part i (Gives how reply) =
+    let after : World = record w { history = entered how (entry_of l part i reply) w.history } in
+    let bytes : List ℕ = reply_frame i.head (kind_of i.request) reply in
     shows
-    (sends_frame (record w { history = entered how (entry_of l part i reply) w.history }) l (to.Client i.head.client) (reply_frame i.head (kind_of i.request) reply) (record { part = part; looked = looked_by how i.request }))
+    (sends_frame after l (to.Client i.head.client) bytes (record { part = part; looked = looked_by how i.request }))
     (did.Handled k i.head.client part how (status_in reply) (next_frame w))
 
 -- the node's step on the item of frame k
@@ -136,14 +149,23 @@ node_stepped w l k part i step = node_said (record w { node = step.node }) l k p
 abbrev pub node_judged : World → (l k : ℕ) → Part → List ℕ → Option BadFrame → Stepped
 node_judged w l k part bytes (Some fault) = shows w (did.Bad fault)
 node_judged w l k part bytes None =
-    let i : Item = record { head = head_in bytes; request = request_in bytes } in node_stepped w l k part i (step_item latest w.node w.moment i)
+    let i : Item = record { head = head_in bytes; request = request_in bytes } in
+    node_stepped w l k part i (step_item latest w.node w.moment i)
 
 -- ---- a frame at its client
 -- the entry of a look whose reply was taken is made on the line of the look
 abbrev pub taken_entry : ℕ → List ℕ → Part → Option Request → List Entry → List Entry
 taken_entry line bytes part None h = h
 taken_entry line bytes part (Some r) h =
-    with_entry (record { line = line; position = 0; client = (head_in bytes).client; pid = (head_in bytes).pid; part = part; request = r; reply = reply_in bytes }) h
+    with_entry (record {
+      line = line;
+      position = 0;
+      client = (head_in bytes).client;
+      pid = (head_in bytes).pid;
+      part = part;
+      request = r;
+      reply = reply_in bytes;
+    }) h
 
 -- a client heard the bytes of frame k so
 abbrev pub client_heard : World → ℕ → ℕ → Note → ClientState → List ℕ → Hearing → Stepped
@@ -164,7 +186,8 @@ client_heard w k line note s bytes (HearsBad fault) = shows w (did.Bad fault)
 abbrev pub arrived : World → (l k : ℕ) → Option Note → List ℕ → End → ℕ → Stepped
 arrived w l k None bytes end line = shows w (did.Absent k)
 arrived w l k (Some note) bytes to.Node line = node_judged w l k note.part bytes (request_fault bytes)
-arrived w l k (Some note) bytes (to.Client c) line = with_found w (client_in w.clients c) (λ s. client_heard w k line note s bytes (hearing s bytes))
+arrived w l k (Some note) bytes (to.Client c) line =
+    with_found w (client_in w.clients c) (λ s. client_heard w k line note s bytes (hearing s bytes))
 
 -- what stands under the number k
 abbrev pub delivered : World → (l k : ℕ) → Option Note → Found → Stepped
@@ -197,9 +220,9 @@ peeked addr n None = did.PeekNoMapping
 peeked addr n (Some page) = did.Peeked (bytes_at (offset_of addr) n (bytes_of page))
 
 -- the bytes of frame k, live or not
-abbrev pub shown : ℕ → Option SentFrame → Did
-shown k None = did.ShownAbsent k
-shown k (Some frame) = did.Shown k frame.bytes
+abbrev pub frame_shown : ℕ → Option SentFrame → Did
+frame_shown k None = did.ShownAbsent k
+frame_shown k (Some frame) = did.Shown k frame.bytes
 
 -- bytes that spell no frame for their end are refused there; no schedule has others
 abbrev pub garbage : Option BadFrame → Did
@@ -209,14 +232,15 @@ garbage None = did.Idle
 -- ---- an event
 -- what an event on line l does
 abbrev pub step : World → ℕ → Event → Stepped
-step w l (event.Call client text) = with_found w (client_in w.clients client) (λ s. call_judged w s (call_of text) (issue_fault s (call_of text)))
+step w l (event.Call client text) =
+    with_found w (client_in w.clients client) (λ s. call_judged w s (call_of text) (issue_fault s (call_of text)))
 step w l (event.Poll client) = with_found w (client_in w.clients client) (λ s. polled w l s (poll s w.moment))
 step w l (event.Deliver frame) = deliver w l frame
 step w l event.DeliverNext = with_next w (λ v k. deliver v l k) (next_number w.link)
 step w l event.Drop = with_next w (λ v k. shows v (did.Dropped k)) (next_number w.link)
 step w l (event.Tick by) = ticked w by
 step w l (event.Peek pid addr len) = shows w (peeked addr len (page_at w.node.flat pid (page_of addr)))
-step w l (event.Show frame) = shows w (shown frame (frame_at w.link frame))
+step w l (event.Show frame) = shows w (frame_shown frame (frame_at w.link frame))
 step w l event.Stat = shows w (did.Stat (used w.node.flat) (length w.node.records))
 step w l (event.GarbageNode bytes) = shows w (garbage (request_fault (expanded bytes)))
 step w l (event.GarbageClient client bytes) = shows w (garbage (reply_fault (expanded bytes)))

@@ -11,6 +11,7 @@ ghost use Rattle.world.specs.Saying.{IsReadable, IsSaid, IsSaidTo, IsShort, IsSh
 use crate::copies::{own_reply, own_request};
 use cl_types::frame::{BadFrame, Head, How};
 use cl_types::items::NoMemory;
+use cl_types::limits::FRAME_ROOM;
 use cl_types::numbers::ClientNo;
 use cl_types::reply::Reply;
 use cl_types::request::{Request, RequestRef};
@@ -52,6 +53,7 @@ pub enum Said {
         oldest: u64,
         now: u64,
     },
+    /// The node answers, with a frame that is to be sent.
     Answers(Answered),
 }
 
@@ -64,7 +66,7 @@ pub fn ask(
     out: &mut [u8],
 ) -> Result<Said, NoMemory>
     requires later { node.old.last ≤ now }
-    requires room { length out.old ≡ 1200 }
+    requires room { length out.old ≡ FRAME_ROOM }
     ensures node { node.new ≡ record {
       node = node_given latest node.old.node now frame.now;
       last = now;
@@ -84,7 +86,7 @@ pub fn ask(
 /// One step of the node. How often it reads its table and takes pages is not asked.
 fn step(node: &mut Node, now: u64, frame: &[u8], out: &mut [u8]) -> Outcome
     requires later { node.old.last ≤ now }
-    requires room { length out.old ≡ 1200 }
+    requires room { length out.old ≡ FRAME_ROOM }
     ensures node { node.new ≡ record {
       node = node_given latest node.old.node now frame.now;
       last = now;
@@ -110,7 +112,7 @@ fn counted_step<A: Ledger, B: Ledger>(
     requires reads { (reads.name ≡ A.name) × (reads.parts ≡ A.parts) × (0 < reads.parts) }
     requires takes { (takes.name ≡ B.name) × (takes.parts ≡ B.parts) × (0 < takes.parts) }
     requires later { node.old.last ≤ now }
-    requires room { length out.old ≡ 1200 }
+    requires room { length out.old ≡ FRAME_ROOM }
     ensures node { node.new ≡ record {
       node = node_given latest node.old.node now frame.now;
       last = now;
@@ -132,7 +134,7 @@ fn said_of(
     out: &[u8],
 ) -> Result<Said, NoMemory>
     requires head { IsHead view.now.head }
-    requires room { length out.now ≡ 1200 }
+    requires room { length out.now ≡ FRAME_ROOM }
     requires short { IsShort outcome }
     requires readable { IsReadable outcome out.now }
     ensures said { (x : NodeSaid)

@@ -12,6 +12,7 @@ ghost use Rattle.world.specs.Running.{HaveNumbersApart};
 use crate::whole::Whole;
 use cl_types::config::Config;
 use cl_types::items::NoMemory;
+use cl_types::limits::FRAME_ROOM;
 use cl_types::numbers::{ClientNo, Pid};
 use client_core::Client;
 use flat_model::open_fault::OpenFault;
@@ -52,7 +53,7 @@ fn around(alloc: Global, node: Node, given: &[(ClientNo, Pid)]) -> Result<Whole,
         link,
         notes: Vec::new(alloc),
         history: Vec::new(alloc),
-        out: [0; 1200],
+        out: [0; FRAME_ROOM],
     })
 }
 

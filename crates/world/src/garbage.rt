@@ -11,6 +11,7 @@ use crate::ask::{Said, ask};
 use crate::copies::expand;
 use crate::whole::{Whole, alone, client_at};
 use cl_types::items::NoMemory;
+use cl_types::limits::FRAME_ROOM;
 use cl_types::line::{Did, EventLine};
 use cl_types::numbers::ClientNo;
 use cl_types::schedule::Written;
@@ -76,7 +77,7 @@ fn node_refuses(
     out: &mut [u8],
 ) -> Result<Did, NoMemory>
     requires later { node.old.last ≤ now }
-    requires room { length out.old ≡ 1200 }
+    requires room { length out.old ≡ FRAME_ROOM }
     ensures did { IfOk result (λ did. did ≡ garbage (request_fault bytes.now)) }
     ensures node { node.new.node ≡ node.old.node }
     ensures handed { IsSome (request_fault bytes.now) → node.new.last ≡ now }

@@ -24,11 +24,11 @@ impl Whole {
         ensures sound { OnOk result (AreSound line self.new) }
         ensures keyed { AreKeyed self.new.clients }
     {
-        self.made(alloc, line, event)
+        self.dispatch(alloc, line, event)
     }
 
-    /// Makes an event happen on a line.
-    fn made(&mut self, alloc: Global, line: u32, event: &Event) -> Result<EventLine, NoMemory>
+    /// The same while all numbers have room; that they keep it is `happen`'s.
+    fn dispatch(&mut self, alloc: Global, line: u32, event: &Event) -> Result<EventLine, NoMemory>
         requires ready { IsReady self.old }
         requires keyed { AreKeyed self.old.clients }
         requires fair { IsFair event.now }

@@ -101,7 +101,7 @@ fn answer_too_long(no: u8, op: u8, out: u32, bytes: &Written) -> Option<IssueFau
 }
 
 /// How many bytes stand written, as far as 32 bits tell it.
-#[tactic(auto, using(crate::proofs::IssueLemmas::length_written))]
+#[tactic(auto, using(crate::proofs::CopyLemmas::length_written))]
 fn written_len(written: &Written) -> u32
     ensures { result ≡ min (length (expanded written.now)) (2 ^ 32 - 1) }
 {

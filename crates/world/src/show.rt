@@ -7,7 +7,7 @@ ghost use Rattle.flat_model.specs.State.{page_at, used};
 ghost use Rattle.link_sim.specs.LinkFrames.{frame_at};
 ghost use Rattle.world.specs.Fields.{world_of};
 ghost use Rattle.world.specs.Running.{stepped};
-ghost use Rattle.world.specs.Worlds.{peeked, shown, ticked};
+ghost use Rattle.world.specs.Worlds.{peeked, frame_shown, ticked};
 
 use crate::copies::{copied, zeros};
 use crate::whole::{Whole, alone};
@@ -48,7 +48,7 @@ impl Whole {
     /// The bytes of a frame. At moment 0 no frame is old, so that it is shown, live or not.
     #[tactic(auto, using(crate::proofs::ShowLemmas::shown_live, crate::proofs::ShowLemmas::shown_absent, crate::proofs::ShowLemmas::shown_expired))]
     pub fn show(&self, alloc: Global, frame: u32) -> Result<Did, NoMemory>
-        ensures { IfOk result (λ did. did ≡ shown frame (frame_at self.now.link frame)) }
+        ensures { IfOk result (λ did. did ≡ frame_shown frame (frame_at self.now.link frame)) }
     {
         match self.link.get(0, frame) {
             Got::Live { bytes, .. } => {

@@ -8,6 +8,7 @@ use crate::copies::copied;
 use crate::whole::alone;
 use cl_types::call::Call;
 use cl_types::items::{Bytes, NoMemory};
+use cl_types::limits::FRAME_ROOM;
 use cl_types::line::{Did, EndedCall, EventLine};
 use cl_types::numbers::{CallNo, ClientNo};
 use cl_types::reply::{Answer, Part, Value};
@@ -39,7 +40,7 @@ pub fn turn(
 ) -> Result<Turned, NoMemory>
     requires moment { client.old.last ≤ now }
     requires handed_out { client.old.ended ≡ [] }
-    requires room { length out.old ≡ 1200 }
+    requires room { length out.old ≡ FRAME_ROOM }
     ensures turned { IfOk result (λ t. IsTurned client.old now (poll client.old now) t out.new) }
     ensures short { IfOk result IsShortTurn }
     ensures state { OnOk result (client.new

@@ -9,6 +9,7 @@ ghost use Rattle.world.specs.Worlds.{client_in, next_frame, note_on, sends_frame
 use crate::note::Note;
 use cl_types::frame::End;
 use cl_types::items::NoMemory;
+use cl_types::limits::FRAME_ROOM;
 use cl_types::line::{Did, Entry, EventLine};
 use cl_types::numbers::ClientNo;
 use client_core::Client;
@@ -30,7 +31,7 @@ pub struct Whole {
     /// In the order of line and position.
     pub history: Vec<Entry>,
     /// Node and clients write their frames into it.
-    pub out: [u8; 1200],
+    pub out: [u8; FRAME_ROOM],
 }
 
 /// A line with no call that ended.
@@ -65,7 +66,7 @@ impl Whole {
     /// Sends the first `len` bytes of the buffer to an end on a line, with a note, and gives the
     /// number of the frame.
     pub fn send(&mut self, line: u32, end: End, len: usize, note: Note) -> Result<u32, NoMemory>
-        requires len { len ≤ 1200 }
+        requires len { len ≤ FRAME_ROOM }
         requires few { length self.old.link.frames < 4294967295 }
         ensures number { IfOk result (λ number. number ≡ next_frame (world_of self.old)) }
         ensures sent { OnOk result (world_of self.new

@@ -7,7 +7,7 @@ ghost use Rattle.account_laws.specs.ReadSchedules.{IsGood};
 ghost use Rattle.flat_model.specs.Opening.{open_fault};
 ghost use Rattle.flat_model.specs.Properties.{IsInOrder};
 ghost use Rattle.world.specs.Fields.{IsReady};
-ghost use Rattle.world.specs.Follows.{StandsBehind, Tells, opened};
+ghost use Rattle.world.specs.Follows.{StandsFor, TellsLine, opened};
 ghost use Rattle.world.specs.Running.{HaveNumbersApart, IsFair, stepped, summed_on};
 ghost use Rattle.world.specs.Worlds.{client_in, step};
 
@@ -63,7 +63,7 @@ impl World {
     pub fn create(alloc: Global, config: &Config) -> Result<World, OpenFault>
         requires { HaveNumbersApart config.now }
         ensures opened { IfOk result (λ w. w ≡ opened config.now) }
-        ensures stands { IfOk result (StandsBehind config.now []) }
+        ensures stands { IfOk result (StandsFor config.now []) }
         ensures fault { MatchOption (open_fault config.now.node)
             (IfErr result (λ fault. fault ≡ OpenFault.NoMemory)) (λ fault. result ≡ Err fault) }
     {
@@ -87,9 +87,9 @@ impl World {
         ensures stands { (config : Configuration) (events : List (ℕ × Happening))
             → 1 ≤ config.node.retry
             → IsGood config (events ++ (line, event.now) ∷ [])
-            → StandsBehind config events self.old
-            → IfOk result (λ told. Tells config events line event.now told
-            × StandsBehind config (events ++ (line, event.now) ∷ []) self.new) }
+            → StandsFor config events self.old
+            → IfOk result (λ told. TellsLine config events line event.now told
+            × StandsFor config (events ++ (line, event.now) ∷ []) self.new) }
         ensures summary { IfOk result (λ told. self.new.summary
             ≡ summed_on (stepped told self.new.world) self.old.summary) }
         ensures line { OnOk result (self.new.line ≡ line) }

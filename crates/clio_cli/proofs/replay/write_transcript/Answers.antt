@@ -4,7 +4,7 @@ use Rattle.cl_outside.specs.Loops.{WroteFront}
 use Rattle.cl_outside.specs.Told.{Added}
 use Rattle.cl_types.specs.declared.line.Entry.{Entry}
 use Rattle.clio_cli.specs.Replay.{history_text}
-use Rattle.clio_cli.proofs.ReplayLemmas.{after_none, all_written, behind_the_last, front_written}
+use Rattle.clio_cli.proofs.ReplayLemmas.{after_none, all_written, stands_at_last, front_written}
 use Rattle.clio_cli.proofs.replay.write_transcript.Goals as goal
 
 pub print_events-requires-clause-begun : goal.print_events-requires-clause-begun
@@ -30,9 +30,9 @@ returns-clause-front g c =
     (g.K.Sink.written c.print_history.new.sink) (subst (λ (text : List ℕ). WroteFront text (g.K.Sink.written c.print_events.new.sink) (g.K.Sink.written c.print_history.new.sink)) same front))
     c.print_history.ensures.front
 
-pub returns-clause-behind : goal.returns-clause-behind
-returns-clause-behind g c =
+pub returns-clause-stands : goal.returns-clause-stands
+returns-clause-stands g c =
     on_ok_weaker c.print_history.result
-    (λ _. behind_the_last c.args.schedule.now c.requires.served c.print_events.new.world c.print_events.new.held (g.K.Sink.written c.args.sink.now) (g.K.Sink.written c.print_events.new.sink)
+    (λ _. stands_at_last c.args.schedule.now c.requires.served c.print_events.new.world c.print_events.new.held (g.K.Sink.written c.args.sink.now) (g.K.Sink.written c.print_events.new.sink)
     c.in_ok-print_events.ensures.done)
     c.print_history.ensures.printed

@@ -1,17 +1,17 @@
 use Rattle.std.proofs.Common.{Ok, ap, false, refl, subst, sym, []}
 use Rattle.flat_model.specs.Opening.{open_fault}
 use Rattle.world.specs.Fields.{world_of}
-use Rattle.world.specs.Follows.{StandsBehind}
+use Rattle.world.specs.Follows.{StandsFor}
 use Rattle.world.specs.Running.{Running}
 use Rattle.world.specs.Summed.{nothing_counted}
 use Rattle.world.specs.Worlds.{World}
-use Rattle.world.proofs.Beginning.{behind_none, faulted}
+use Rattle.world.proofs.Beginning.{stands_for_none, faulted}
 use Rattle.world.proofs.world.World.create.Goals as goal
 
 pub returns-clause-stands : goal.returns-clause-stands
 returns-clause-stands c =
     let same = ap (λ (w : World). record { world = w; summary = nothing_counted; line = 0; spent = false }) c.in_ok-whole.ensures.opened in
-    subst (StandsBehind c.args.config.now []) (sym same) (behind_none c.args.config.now)
+    subst (StandsFor c.args.config.now []) (sym same) (stands_for_none c.args.config.now)
 
 pub returns-clause-fault : goal.returns-clause-fault
 returns-clause-fault c =
