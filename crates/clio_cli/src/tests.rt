@@ -95,68 +95,97 @@ fn the_first_path_is_printed_and_its_world_is_left(rt: HostRuntime) -> Result<()
     Ok(())
 }
 
+// The calls on the source that fail, and those on the sink, by their numbers from 1.
+type Failing<'a> = (&'a [u64], &'a [u64]);
+
+// No call fails.
+const NO_FAULT: Failing = (&[], &[]);
+
+// Whether words on an input write what is wanted, end with this status, and leave nothing.
+fn ends_with(
+    alloc: Global,
+    words: &[&str],
+    input: &[u8],
+    failing: Failing,
+    want: &[u8],
+    status: u8,
+) -> Result<bool, NoMemory> {
+    let (reads, writes) = failing;
+    let ran = run_on(alloc, words, input, reads, writes)?;
+    let is_nothing = matches!(ran.left, Left::Nothing);
+    Ok(ran.status == status && ran.written.as_slice() == want && is_nothing)
+}
+
 #[test]
-fn each_end_has_its_text_and_status(rt: HostRuntime) -> Result<(), Fail> {
+fn words_that_are_no_command_are_told(rt: HostRuntime) -> Result<(), Fail> {
+    let alloc = rt.alloc();
+    let told = b"bad words\n";
+    assert!(rt; ends_with(alloc, &[], PATH, NO_FAULT, told, 1)?);
+    assert!(rt; ends_with(alloc, &[""], PATH, NO_FAULT, told, 1)?);
+    assert!(rt; ends_with(alloc, &["replay", "replay"], PATH, NO_FAULT, told, 1)?);
+    Ok(())
+}
+
+#[test]
+fn the_first_bad_line_is_told(rt: HostRuntime) -> Result<(), Fail> {
+    let alloc = rt.alloc();
+    let nothing = b"line 1: node expected\n";
+    assert!(rt; ends_with(alloc, &["replay"], b"", NO_FAULT, nothing, 2)?);
+    // A bad line is told before a bad node.
+    let input = b"node 16 7 4 4\nclient 1 1\nhold\n";
+    assert!(rt;
+        ends_with(
+            alloc,
+            &["replay"],
+            input,
+            NO_FAULT,
+            b"line 3: unknown word\n",
+            2
+        )?
+    );
+    Ok(())
+}
+
+#[test]
+fn a_node_that_does_not_open_is_told(rt: HostRuntime) -> Result<(), Fail> {
+    let alloc = rt.alloc();
+    let odd = b"node 16 7 4 4\nclient 1 1\n";
+    assert!(rt;
+        ends_with(
+            alloc,
+            &["replay"],
+            odd,
+            NO_FAULT,
+            b"bad node: buckets 7\n",
+            10
+        )?
+    );
+    let full = b"node 1 8 1 4\noffload kv 2\nclient 1 1\n";
+    let told = b"bad node: offload 0 pages 2\n";
+    assert!(rt; ends_with(alloc, &["replay"], full, NO_FAULT, told, 10)?);
+    Ok(())
+}
+
+#[test]
+fn a_failing_read_or_write_ends_the_run(rt: HostRuntime) -> Result<(), Fail> {
+    let alloc = rt.alloc();
+    // The second read is the one that would find the end.
+    assert!(rt; ends_with(alloc, &["replay"], PATH, (&[1], &[]), b"", 3)?);
+    assert!(rt; ends_with(alloc, &["replay"], PATH, (&[2], &[]), b"", 3)?);
+    assert!(rt; ends_with(alloc, &["replay"], PATH, (&[], &[1]), b"", 4)?);
+    assert!(rt; ends_with(alloc, &["replays"], PATH, (&[], &[1]), b"", 4)?);
+    Ok(())
+}
+
+#[test]
+fn an_input_that_is_too_long_is_told(rt: HostRuntime) -> Result<(), Fail> {
     let alloc = rt.alloc();
     let lines = vec![in alloc; b'\n'; 200_001]?;
+    let told = b"too long: lines 200001\n";
+    assert!(rt; ends_with(alloc, &["replay"], &lines, NO_FAULT, told, 8)?);
     let bytes = vec![in alloc; b'#'; 16_777_217]?;
-    // The second read is the one that would find the end.
-    let cases: [(&[&str], &[u8], &[u64], &[u64], &[u8], u8); 13] = [
-        (&[], PATH, &[], &[], b"bad words\n", 1),
-        (&[""], PATH, &[], &[], b"bad words\n", 1),
-        (&["replay", "replay"], PATH, &[], &[], b"bad words\n", 1),
-        (&["replay"], b"", &[], &[], b"line 1: node expected\n", 2),
-        (
-            &["replay"],
-            b"node 16 7 4 4\nclient 1 1\nhold\n",
-            &[],
-            &[],
-            b"line 3: unknown word\n",
-            2,
-        ),
-        (&["replay"], PATH, &[1], &[], b"", 3),
-        (&["replay"], PATH, &[2], &[], b"", 3),
-        (&["replay"], PATH, &[], &[1], b"", 4),
-        (&["replays"], PATH, &[], &[1], b"", 4),
-        (
-            &["replay"],
-            lines.as_slice(),
-            &[],
-            &[],
-            b"too long: lines 200001\n",
-            8,
-        ),
-        (
-            &["replay"],
-            bytes.as_slice(),
-            &[],
-            &[],
-            b"too long: bytes 16777217\n",
-            8,
-        ),
-        (
-            &["replay"],
-            b"node 16 7 4 4\nclient 1 1\n",
-            &[],
-            &[],
-            b"bad node: buckets 7\n",
-            10,
-        ),
-        (
-            &["replay"],
-            b"node 1 8 1 4\noffload kv 2\nclient 1 1\n",
-            &[],
-            &[],
-            b"bad node: offload 0 pages 2\n",
-            10,
-        ),
-    ];
-    for (words, input, reads, writes, want, status) in cases {
-        let ran = run_on(alloc, words, input, reads, writes)?;
-        assert_eq!(rt; ran.status, status, "{status}");
-        assert_eq!(rt; ran.written.as_slice(), want, "{status}");
-        assert!(rt; matches!(ran.left, Left::Nothing), "{status}");
-    }
+    let told = b"too long: bytes 16777217\n";
+    assert!(rt; ends_with(alloc, &["replay"], &bytes, NO_FAULT, told, 8)?);
     Ok(())
 }
 
