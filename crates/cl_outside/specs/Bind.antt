@@ -1,10 +1,11 @@
 -- What one bind does to the count of faults.
 use Rattle.std.specs.Prelude.{◌≡◌, ℕ}
-use Rattle.cl_outside.specs.Counts.{Rose}
+use Rattle.cl_outside.specs.Counts.{LastFailed, after_good}
+use Rattle.cl_outside.specs.declared.faults.Faults.{Faults}
 use Rattle.cl_outside.specs.declared.wire.Bound.{Bound}
 use Rattle.cl_outside.specs.declared.wire.Bound.TheVariants.{Port, Failed}
 
--- the count rose where the bind failed, and else stands
-abbrev pub CountsBind : ℕ → ℕ → Bound → Type 0
-CountsBind before now (Port n) = now ≡ before
-CountsBind before now Failed = Rose before now
+-- the bind counts as one that failed, or as one that did not
+abbrev pub CountsBind : Faults → Faults → Bound → Type 0
+CountsBind before now (Port n) = now ≡ after_good before
+CountsBind before now Failed = LastFailed before now

@@ -1,7 +1,9 @@
 -- What reading an input and writing all bytes do.
-use Rattle.std.specs.Prelude.{◌≡◌, ℕ, ◌+◌, ◌<◌, ◌≤◌, Bool, true, false, List, [], ◌++◌, length, take, Result, Err, IfSome}
+use Rattle.std.specs.Prelude.{◌≡◌, ℕ, ◌+◌, ◌<◌, ◌≤◌, Bool, true, false, List, [], ◌++◌, length, take, Result, Ok, Err, IfSome}
 use Rattle.std.specs.declared.option.Option.{Option}
+use Rattle.cl_outside.specs.Counts.{LastFailed, NoneFailed}
 use Rattle.cl_outside.specs.Told.{Took, Added}
+use Rattle.cl_outside.specs.declared.faults.Faults.{Faults}
 use Rattle.cl_outside.specs.declared.loops.TheConstants.{INPUT_LIMIT}
 use Rattle.cl_outside.specs.declared.loops.Stop.{Stop}
 use Rattle.cl_outside.specs.declared.loops.Stop.TheVariants.{ReadFault, TooLong, WriteFault, NoMemory}
@@ -20,10 +22,15 @@ IsPieceStop NoMemory = Unit {0}
 IsPieceStop TooLong = ⊥
 IsPieceStop WriteFault = ⊥
 
--- the count of faults stands, unless a read failed
-abbrev pub StandsUnlessFailed : {A : Type 0} → Result A Stop → ℕ → ℕ → Type 0
-StandsUnlessFailed (Err ReadFault) before now = Unit {0}
-StandsUnlessFailed other before now = now ≡ before
+-- of the reads that were made the last alone failed, or none did
+abbrev pub CountsReads : {A : Type 0} → Faults → Faults → Result A Stop → Type 0
+CountsReads before now (Err ReadFault) = LastFailed before now
+CountsReads before now other = NoneFailed before now
+
+-- of the writes that were made the last alone failed, or none did
+abbrev pub CountsWrites : {A E : Type 0} → Faults → Faults → Result A E → Type 0
+CountsWrites before now (Ok done) = NoneFailed before now
+CountsWrites before now (Err stop) = LastFailed before now
 
 -- so many were taken off the front
 abbrev pub TookCount : ℕ → Option (List ℕ) → Option (List ℕ) → Type 0

@@ -1,9 +1,10 @@
 -- What one receive does to the datagrams to come, to the buffer, and to the counts.
 use Rattle.std.specs.Prelude.{◌≡◌, ℕ, ◌≤◌, List, [], ◌∷◌, length, take, IfSome}
 use Rattle.std.specs.declared.option.Option.{Option}
-use Rattle.cl_outside.specs.Counts.{Rose}
+use Rattle.cl_outside.specs.Counts.{LastFailed, Rose, after_good}
 use Rattle.cl_outside.specs.Told.{Took}
 use Rattle.cl_outside.specs.Wire.{Message}
+use Rattle.cl_outside.specs.declared.faults.Faults.{Faults}
 use Rattle.cl_outside.specs.declared.wire.Peer.{Peer}
 use Rattle.cl_outside.specs.declared.wire.Recv.{Recv}
 use Rattle.cl_outside.specs.declared.wire.Recv.TheVariants.{Got, Idle, Failed}
@@ -23,11 +24,11 @@ Receives before after buf (Got len from) =
 Receives before after buf Idle = (after ≡ before) × IfSome before (λ messages. messages ≡ [])
 Receives before after buf Failed = after ≡ before
 
--- the count of faults rose where the receive failed, and else stands
-abbrev pub CountsRecv : ℕ → ℕ → Recv → Type 0
-CountsRecv before now (Got len from) = now ≡ before
-CountsRecv before now Idle = now ≡ before
-CountsRecv before now Failed = Rose before now
+-- the receive counts as one that failed, or as one that did not
+abbrev pub CountsRecv : Faults → Faults → Recv → Type 0
+CountsRecv before now (Got len from) = now ≡ after_good before
+CountsRecv before now Idle = now ≡ after_good before
+CountsRecv before now Failed = LastFailed before now
 
 -- the count of idles rose where no datagram came, and else stands
 abbrev pub CountsIdle : ℕ → ℕ → Recv → Type 0

@@ -1,8 +1,9 @@
 -- What one write does to what was written, and to the count of faults.
 use Rattle.std.specs.Prelude.{◌≡◌, ℕ, ◌<◌, ◌≤◌, List, length, take}
 use Rattle.std.specs.declared.option.Option.{Option}
-use Rattle.cl_outside.specs.Counts.{Rose}
+use Rattle.cl_outside.specs.Counts.{LastFailed, after_good}
 use Rattle.cl_outside.specs.Told.{Added}
+use Rattle.cl_outside.specs.declared.faults.Faults.{Faults}
 use Rattle.cl_outside.specs.declared.sink.Wrote.{Wrote}
 use Rattle.cl_outside.specs.declared.sink.Wrote.TheVariants.{Put, Failed}
 
@@ -11,7 +12,7 @@ abbrev pub Writes : Option (List ℕ) → Option (List ℕ) → List ℕ → Wro
 Writes before after piece (Put n) = (0 < n) × (n ≤ length piece) × Added (take n piece) before after
 Writes before after piece Failed = after ≡ before
 
--- the count rose where the write failed, and else stands
-abbrev pub CountsWrite : ℕ → ℕ → Wrote → Type 0
-CountsWrite before now (Put n) = now ≡ before
-CountsWrite before now Failed = Rose before now
+-- the write counts as one that failed, or as one that did not
+abbrev pub CountsWrite : Faults → Faults → Wrote → Type 0
+CountsWrite before now (Put n) = now ≡ after_good before
+CountsWrite before now Failed = LastFailed before now

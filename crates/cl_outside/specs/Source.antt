@@ -1,8 +1,9 @@
 -- What one read does to what a source has left, to the buffer, and to the count of faults.
 use Rattle.std.specs.Prelude.{◌≡◌, ℕ, ◌<◌, ◌≤◌, List, [], length, take, IfSome}
 use Rattle.std.specs.declared.option.Option.{Option}
-use Rattle.cl_outside.specs.Counts.{Rose}
+use Rattle.cl_outside.specs.Counts.{LastFailed, after_good}
 use Rattle.cl_outside.specs.Told.{Took}
+use Rattle.cl_outside.specs.declared.faults.Faults.{Faults}
 use Rattle.cl_outside.specs.declared.source.Read.{Read}
 use Rattle.cl_outside.specs.declared.source.Read.TheVariants.{Got, End, Failed}
 
@@ -14,8 +15,8 @@ Reads before after buf (Got n) = (0 < n) × (n ≤ length buf) × Took (take n b
 Reads before after buf End = (after ≡ before) × IfSome before (λ bytes. bytes ≡ [])
 Reads before after buf Failed = after ≡ before
 
--- the count rose where the read failed, and else stands
-abbrev pub CountsRead : ℕ → ℕ → Read → Type 0
-CountsRead before now (Got n) = now ≡ before
-CountsRead before now End = now ≡ before
-CountsRead before now Failed = Rose before now
+-- the read counts as one that failed, or as one that did not
+abbrev pub CountsRead : Faults → Faults → Read → Type 0
+CountsRead before now (Got n) = now ≡ after_good before
+CountsRead before now End = now ≡ after_good before
+CountsRead before now Failed = LastFailed before now

@@ -4,7 +4,7 @@
 //!
 //! A contract sees what a source still has, what a sink was given, what a wire still gives, what
 //! it sent and its last bind, and what a clock still answers, each where the object tells it. It
-//! also sees the counts of faults, which only rise: no call fails unless the count rose in it.
+//! also sees of each object how many of its calls have failed, and whether the last one did.
 //!
 //! The implementations in memory tell all of it, and fail exactly at the calls that they are told
 //! to fail at. The real things tell nothing of content: what the system does with bytes is trusted
@@ -12,6 +12,7 @@
 #![tactic(auto)]
 
 mod clock;
+mod faults;
 mod front;
 mod loops;
 mod memory;
@@ -23,6 +24,7 @@ mod tests;
 mod wire;
 
 pub use clock::Clock;
+pub use faults::Faults;
 pub use loops::{INPUT_LIMIT, Stop, read_input, write_all};
 pub use memory::{Datagram, MemorySink, MemorySource, ScriptClock, ScriptWire};
 pub use real::{StdClock, StdSink, StdSource, UdpWire};

@@ -1,9 +1,8 @@
 //! Reading an input to its end, and writing all bytes.
 
 ghost use Rattle.std.specs.Prelude.{◌≡◌, ◌<◌, ◌≤◌, ◌+◌, ◌++◌, [], length, IfOk, OnOk, IfErr, OnErr, IfSome, IsErrOf};
-ghost use Rattle.cl_outside.specs.Counts.{Rose};
 ghost use Rattle.cl_outside.specs.Told.{Added};
-ghost use Rattle.cl_outside.specs.Loops.{GotPiece, IsPieceStop, IsReadStop, StandsUnlessFailed, TookCount, WroteFront};
+ghost use Rattle.cl_outside.specs.Loops.{CountsReads, CountsWrites, GotPiece, IsPieceStop, IsReadStop, TookCount, WroteFront};
 
 use crate::{Read, Sink, Source, Wrote};
 use std::alloc::{AllocError, Global};
@@ -44,10 +43,7 @@ fn read_piece<S: Source>(source: &mut S, bytes: &mut Vec<u8>) -> Result<bool, St
     ensures got { IfOk result (λ more.
         GotPiece more bytes.old.items bytes.new.items (S.left source.old) (S.left source.new)) }
     ensures stop { IfErr result IsPieceStop }
-    ensures counted { StandsUnlessFailed result (S.faults source.old) (S.faults source.new) }
-    ensures fault { IsErrOf result Stop.ReadFault
-        → Rose (S.faults source.old) (S.faults source.new) }
-    ensures later { S.faults source.old ≤ S.faults source.new }
+    ensures counted { CountsReads (S.faults source.old) (S.faults source.new) result }
 {
     let mut piece = [0u8; PIECE];
     let room = (INPUT_LIMIT + 1 - bytes.len()).min(PIECE);
@@ -67,15 +63,12 @@ pub fn read_input<S: Source>(alloc: Global, source: &mut S) -> Result<Vec<u8>, S
     ensures all { IfOk result (λ bytes. IfSome (S.left source.old) (λ left. bytes.items ≡ left)) }
     ensures end { OnOk result (IfSome (S.left source.new) (λ left. left ≡ [])) }
     ensures short { IfOk result (λ bytes. length bytes.items ≤ INPUT_LIMIT) }
-    ensures counted { StandsUnlessFailed result (S.faults source.old) (S.faults source.new) }
+    ensures counted { CountsReads (S.faults source.old) (S.faults source.new) result }
     ensures stop { IfErr result IsReadStop }
-    ensures fault { IsErrOf result Stop.ReadFault
-        → Rose (S.faults source.old) (S.faults source.new) }
     ensures long { IsErrOf result Stop.TooLong
         → IfSome (S.left source.old) (λ left. INPUT_LIMIT < length left) }
     ensures stopped { IsErrOf result Stop.TooLong
         → TookCount (INPUT_LIMIT + 1) (S.left source.old) (S.left source.new) }
-    ensures later { S.faults source.old ≤ S.faults source.new }
 {
     let mut bytes = Vec::new(alloc);
     while bytes.len() <= INPUT_LIMIT {
@@ -90,10 +83,8 @@ pub fn read_input<S: Source>(alloc: Global, source: &mut S) -> Result<Vec<u8>, S
 pub fn write_all<K: Sink>(sink: &mut K, bytes: &[u8]) -> Result<(), Stop>
     ensures all { OnOk result (Added bytes.now (K.written sink.old) (K.written sink.new)) }
     ensures front { OnErr result (WroteFront bytes.now (K.written sink.old) (K.written sink.new)) }
-    ensures counted { OnOk result (K.faults sink.new ≡ K.faults sink.old) }
+    ensures counted { CountsWrites (K.faults sink.old) (K.faults sink.new) result }
     ensures stop { IfErr result (λ stop. stop ≡ Stop.WriteFault) }
-    ensures fault { OnErr result (Rose (K.faults sink.old) (K.faults sink.new)) }
-    ensures later { K.faults sink.old ≤ K.faults sink.new }
 {
     let mut done = 0;
     while done < bytes.len() {

@@ -2,6 +2,7 @@
 
 ghost use Rattle.std.specs.Prelude.{◌<◌, ◌≤◌, List, ℕ, length};
 ghost use Rattle.std.specs.declared.option.Option.{Option};
+ghost use Rattle.cl_outside.specs.declared.faults.Faults.{Faults};
 ghost use Rattle.cl_outside.specs.Source.{CountsRead, Reads};
 
 /// What a read gave.
@@ -20,14 +21,13 @@ pub trait Source {
     /// The bytes that are left, where the source tells.
     ghost left: { Self → Option (List ℕ) };
 
-    /// How many reads have failed; the count stays at 2^64 - 1.
-    ghost faults: { Self → ℕ };
+    /// Which reads have failed: how many, and whether the last one did.
+    ghost faults: { Self → Faults };
 
     /// Reads a piece into the front of the buffer, which must not be empty. A read that fails or
     /// finds the end leaves what is left.
     fn read(&mut self, buf: &mut [u8]) -> Read
         requires { 0 < length buf.old }
         ensures bytes { Reads (left self.old) (left self.new) buf.new result }
-        ensures later { faults self.old ≤ faults self.new }
         ensures cause { CountsRead (faults self.old) (faults self.new) result };
 }

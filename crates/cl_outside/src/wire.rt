@@ -4,6 +4,7 @@ ghost use Rattle.std.specs.Prelude.{◌≡◌, ◌≤◌, List, ℕ};
 ghost use Rattle.std.specs.Option.{option_map};
 ghost use Rattle.std.specs.declared.option.Option.{Option};
 ghost use Rattle.std.specs.declared.option.Option.TheVariants.{Some};
+ghost use Rattle.cl_outside.specs.declared.faults.Faults.{Faults};
 ghost use Rattle.cl_outside.specs.Wire.{Message, Binding};
 ghost use Rattle.cl_outside.specs.Bind.{CountsBind};
 ghost use Rattle.cl_outside.specs.Receive.{CountsIdle, CountsRecv, Receives};
@@ -58,8 +59,8 @@ pub trait Wire {
     /// The last bind, where the wire tells: `Some None` before the first.
     ghost last_bind: { Self → Option (Option Binding) };
 
-    /// How many calls have failed; the count stays at 2^64 - 1.
-    ghost faults: { Self → ℕ };
+    /// Which calls have failed: how many, and whether the last one did.
+    ghost faults: { Self → Faults };
 
     /// How many receives found no datagram; the count stays at 2^64 - 1.
     ghost idles: { Self → ℕ };
@@ -71,7 +72,6 @@ pub trait Wire {
         ensures coming { coming self.new ≡ coming self.old }
         ensures sent { sent self.new ≡ sent self.old }
         ensures idles { idles self.new ≡ idles self.old }
-        ensures later { faults self.old ≤ faults self.new }
         ensures cause { CountsBind (faults self.old) (faults self.new) result };
 
     /// Receives the next datagram into the front of the buffer, cut to the buffer's length.
@@ -80,7 +80,6 @@ pub trait Wire {
         ensures sent { sent self.new ≡ sent self.old }
         ensures last_bind { last_bind self.new ≡ last_bind self.old }
         ensures idles { CountsIdle (idles self.old) (idles self.new) result }
-        ensures later { faults self.old ≤ faults self.new }
         ensures cause { CountsRecv (faults self.old) (faults self.new) result };
 
     /// Sends these bytes as one datagram.
@@ -90,6 +89,5 @@ pub trait Wire {
         ensures coming { coming self.new ≡ coming self.old }
         ensures last_bind { last_bind self.new ≡ last_bind self.old }
         ensures idles { idles self.new ≡ idles self.old }
-        ensures later { faults self.old ≤ faults self.new }
         ensures cause { CountsSend (faults self.old) (faults self.new) result };
 }

@@ -1,14 +1,15 @@
 -- From how the program ends to when each status comes.
 use Rattle.std.proofs.Common.{◌≡◌, ◌⊎◌, inl, inr, ℕ, ◌+◌, Bool, true, false, List, ◌++◌, length, length-append, Option, Some, None, refl, sym, ap, subst, ◌∙◌, arith}
 use Rattle.std.specs.Prelude.{◌==◌, IsTrue, if◌then◌else◌}
-use Rattle.cl_outside.specs.Counts.{Rose}
+use Rattle.cl_outside.specs.Counts.{LastFailed, NoneFailed}
 use Rattle.cl_outside.specs.Told.{Added, Took}
+use Rattle.cl_outside.specs.declared.faults.Faults.{Faults}
 use Rattle.cl_outside.specs.declared.loops.TheConstants.{INPUT_LIMIT}
 use Rattle.cl_types.specs.declared.schedule.Schedule.{Schedule}
 use Rattle.flat_model.specs.Commands.{command_in}
 use Rattle.flat_model.specs.Text.{Text}
 use Rattle.flat_model.specs.Texts.{transcript}
-use Rattle.clio_cli.specs.Run.{Complete, Ends, EndsWith, Exactly, ExactlyOf, FaultsAreCounted, Gave, NoFault, Outside, Wants, WantsBy}
+use Rattle.clio_cli.specs.Run.{Complete, Ends, EndsWith, Exactly, ExactlyOf, FaultsEndTheRun, Gave, NoFault, Outside, Wants, WantsBy}
 use Rattle.clio_cli.specs.Status.{number_of}
 use Rattle.clio_cli.specs.Verdict.{Verdict, HasBadNode, IsRefused, IsReplayable, IsTooLong, verdict}
 use Rattle.clio_cli.specs.Words.{is_built_command}
@@ -45,8 +46,8 @@ one_status st other same = sym (round st) ∙ ap status_at same ∙ round other
 module _ (words : List Text) (before after : Outside) where
   -- a verdict was written, whole
   pub record Wrote (st : Status) : Type 0 where
-    pub reads : after.read_faults ≡ before.read_faults
-    pub writes : after.write_faults ≡ before.write_faults
+    pub reads : NoneFailed before.read_faults after.read_faults
+    pub writes : NoneFailed before.write_faults after.write_faults
     pub v : Verdict
     pub wants : Wants words before.left after.left v
     pub status : v.status ≡ st
@@ -84,15 +85,38 @@ module _ (words : List Text) (before after : Outside) where
   calm_end status.TooLong calm end = inl (ends_wrote status.TooLong tt end)
   calm_end status.BadNode calm end = inl (ends_wrote status.BadNode tt end)
 
-  pub faults_counted : (number : ℕ) → EndsWith words before after number → FaultsAreCounted before after number
-  faults_counted number (st, is, end) = record {
+  -- the first failure ends the run
+  no_read_failed : (st : Status) → (st ≡ status.ReadFault → ⊥) → Ends words before after st → NoneFailed before.read_faults after.read_faults
+  no_read_failed status.ReadFault other end = absurd (other refl)
+  no_read_failed status.WriteFault other end = end.1
+  no_read_failed status.NoMemory other end = end.0
+  no_read_failed status.Ok other end = end.0
+  no_read_failed status.BadWords other end = end.0
+  no_read_failed status.BadInput other end = end.0
+  no_read_failed status.TooLong other end = end.0
+  no_read_failed status.BadNode other end = end.0
+
+  no_write_failed : (st : Status) → (st ≡ status.WriteFault → ⊥) → Ends words before after st → NoneFailed before.write_faults after.write_faults
+  no_write_failed status.ReadFault other end = end.3
+  no_write_failed status.WriteFault other end = absurd (other refl)
+  no_write_failed status.NoMemory other end = end.1
+  no_write_failed status.Ok other end = end.1
+  no_write_failed status.BadWords other end = end.1
+  no_write_failed status.BadInput other end = end.1
+  no_write_failed status.TooLong other end = end.1
+  no_write_failed status.BadNode other end = end.1
+
+  pub faults_end : (number : ℕ) → EndsWith words before after number → FaultsEndTheRun before after number
+  faults_end number (st, is, end) = record {
     read = λ same. read st (one_status st status.ReadFault (sym is ∙ same)) end;
     write = λ same. write st (one_status st status.WriteFault (sym is ∙ same)) end;
+    no_read = λ other. no_read_failed st (λ same. other (is ∙ ap number_of same)) end;
+    no_write = λ other. no_write_failed st (λ same. other (is ∙ ap number_of same)) end;
   } where
-    read : (st : Status) → st ≡ status.ReadFault → Ends words before after st → Rose before.read_faults after.read_faults
+    read : (st : Status) → st ≡ status.ReadFault → Ends words before after st → LastFailed before.read_faults after.read_faults
     read st same end = let fault : Ends words before after status.ReadFault = subst (Ends words before after) same end in fault.1
 
-    write : (st : Status) → st ≡ status.WriteFault → Ends words before after st → Rose before.write_faults after.write_faults
+    write : (st : Status) → st ≡ status.WriteFault → Ends words before after st → LastFailed before.write_faults after.write_faults
     write st same end = let fault : Ends words before after status.WriteFault = subst (Ends words before after) same end in fault.0
 
 -- ---- what is wanted
@@ -113,7 +137,7 @@ told_verdict true bytes after v holds w = w.2 ∙ gave_verdict w.0 bytes after w
 told_verdict false bytes after v holds w = absurd (let never : false ≡ true = holds in grind arith)
 
 -- ---- when each status comes
-module _ (words : List Text) (after : Outside) (number read_faults write_faults : ℕ) (written : Option (List ℕ)) where
+module _ (words : List Text) (after : Outside) (number : ℕ) (read_faults write_faults : Faults) (written : Option (List ℕ)) where
   abbrev from : Option (List ℕ) → Outside
   from left = record { left = left; read_faults = read_faults; written = written; write_faults = write_faults }
 

@@ -2,6 +2,7 @@
 use Rattle.std.proofs.Common.{◌≡◌, inl, inr, ℕ, ◌≤◌, Bool, true, false, List, ◌∷◌, Option, Some, None, refl, sym, ap, subst, arith, length}
 use Rattle.std.specs.Prelude.{if◌then◌else◌, leb}
 use Rattle.std.proofs.lemmas.Bool.Decides.{nat_tests}
+use Rattle.cl_outside.specs.Counts.{NoneFailed}
 use Rattle.cl_outside.specs.Loops.{WroteFront}
 use Rattle.cl_outside.specs.Told.{Added}
 use Rattle.cl_types.specs.Config.{Judged, bad_number_of, first_bad, is_within, judged_offloads}
@@ -80,7 +81,7 @@ refusal_keeps before after kept status.WriteFault refusal nothing = absurd refus
 refusal_keeps before after kept status.NoMemory refusal nothing = absurd refusal
 
 -- ---- a replay
-module _ (words : List Text) (before after : Outside) (s : Schedule) (w : Running) (kept : Left) (asks : Asks words before.left after.left (wanted.Opened s w)) (reads : after.read_faults ≡ before.read_faults) where
+module _ (words : List Text) (before after : Outside) (s : Schedule) (w : Running) (kept : Left) (asks : Asks words before.left after.left (wanted.Opened s w)) (reads : NoneFailed before.read_faults after.read_faults) where
   abbrev good : IsReplayable asks.1.0 s
   good = asks.1.2
 

@@ -1,7 +1,8 @@
 -- Text on its way to a sink: what was written, and what is held. No public clause cites this module.
 use Rattle.std.specs.Prelude.{◌≡◌, ℕ, ◌++◌, List, Option, Result, Ok, Err}
-use Rattle.cl_outside.specs.Counts.{Rose}
+use Rattle.cl_outside.specs.Counts.{LastFailed, NoneFailed}
 use Rattle.cl_outside.specs.Told.{Added}
+use Rattle.cl_outside.specs.declared.faults.Faults.{Faults}
 use Rattle.flat_model.specs.Text.{Text}
 use Rattle.clio_cli.specs.declared.gather.Cut.{Cut}
 use Rattle.clio_cli.specs.declared.gather.Cut.TheVariants as cut
@@ -12,8 +13,8 @@ pub record Gathered (text held : Text) (before now : Option (List ℕ)) : Type 0
   pub split : text ≡ gone ++ held
   pub written : Added gone before now
 
--- the count of faults rose where a write failed, and else stands
-abbrev pub CountsCut : {A : Type 0} → ℕ → ℕ → Result A Cut → Type 0
-CountsCut before now (Ok value) = now ≡ before
-CountsCut before now (Err cut.WriteFault) = Rose before now
-CountsCut before now (Err cut.NoMemory) = now ≡ before
+-- of the writes that were made the last alone failed, where one did, and else none
+abbrev pub CountsCut : {A : Type 0} → Faults → Faults → Result A Cut → Type 0
+CountsCut before now (Ok value) = NoneFailed before now
+CountsCut before now (Err cut.WriteFault) = LastFailed before now
+CountsCut before now (Err cut.NoMemory) = NoneFailed before now

@@ -1,8 +1,9 @@
 -- The loop over the events of a schedule. No public clause cites this module.
 use Rattle.std.specs.Prelude.{◌≡◌, ℕ, ◌+◌, ◌≤◌, List, [], ◌∷◌, ◌++◌, Option, codes, decimal, flat_map, length}
-use Rattle.cl_outside.specs.Counts.{Rose}
+use Rattle.cl_outside.specs.Counts.{LastFailed, NoneFailed}
 use Rattle.cl_outside.specs.Loops.{WroteFront}
 use Rattle.cl_outside.specs.Told.{Added}
+use Rattle.cl_outside.specs.declared.faults.Faults.{Faults}
 use Rattle.cl_types.specs.declared.line.Entry.{Entry}
 use Rattle.cl_types.specs.declared.schedule.Event.{Event}
 use Rattle.cl_types.specs.declared.schedule.Schedule.{Schedule}
@@ -58,14 +59,14 @@ pub record After (s : Schedule) (i : ℕ) (w : Running) (held : Text) (before no
   pub stands : StandsFor s.config done w
   pub gathered : Gathered (text_of_events s done) held before now
 
--- how a replay ends, by what the sink was given and its count of faults: whole with the world that stands for the events, or
+-- how a replay ends, by what the sink was given and which writes failed: whole with the world that stands for the events, or
 -- cut, and then nothing is left
-abbrev pub Plays : Schedule → (before after : Option (List ℕ)) → (faults faults_after : ℕ) → Left → Status → Type 0
+abbrev pub Plays : Schedule → (before after : Option (List ℕ)) → (faults faults_after : Faults) → Left → Status → Type 0
 Plays s before after faults faults_after kept status.Ok =
-    Added (transcript s) before after × (faults_after ≡ faults)
+    Added (transcript s) before after × NoneFailed faults faults_after
     × (w : Running) × (kept ≡ left.Replayed w) × StandsFor s.config s.events w
 Plays s before after faults faults_after kept status.WriteFault =
-    WroteFront (transcript s) before after × Rose faults faults_after × (kept ≡ left.Nothing)
+    WroteFront (transcript s) before after × LastFailed faults faults_after × (kept ≡ left.Nothing)
 Plays s before after faults faults_after kept status.NoMemory =
-    WroteFront (transcript s) before after × (faults_after ≡ faults) × (kept ≡ left.Nothing)
+    WroteFront (transcript s) before after × NoneFailed faults faults_after × (kept ≡ left.Nothing)
 Plays s before after faults faults_after kept other = ⊥

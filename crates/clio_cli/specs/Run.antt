@@ -1,9 +1,10 @@
 -- What the program does, as its source and its sink show it.
 use Rattle.std.specs.Prelude.{◌≡◌, ◌⊎◌, ℕ, ◌+◌, Bool, true, false, List, [], length, IfSome, IsTrue}
 use Rattle.std.specs.declared.option.Option.{Option}
-use Rattle.cl_outside.specs.Counts.{Rose}
+use Rattle.cl_outside.specs.Counts.{LastFailed, NoneFailed}
 use Rattle.cl_outside.specs.Loops.{WroteFront}
 use Rattle.cl_outside.specs.Told.{Added, Took}
+use Rattle.cl_outside.specs.declared.faults.Faults.{Faults}
 use Rattle.cl_outside.specs.declared.loops.TheConstants.{INPUT_LIMIT}
 use Rattle.cl_types.specs.declared.schedule.Schedule.{Schedule}
 use Rattle.flat_model.specs.Commands.{command_in}
@@ -15,15 +16,15 @@ use Rattle.clio_cli.specs.Words.{is_built_command}
 use Rattle.clio_cli.specs.declared.status.Status.{Status}
 use Rattle.clio_cli.specs.declared.status.Status.TheVariants as status
 
--- what the source has left and the sink was given, where they tell, and their counts of faults
+-- what the source has left and the sink was given, where they tell, and which of their calls failed
 pub record Outside : Type 0 where
   pub left : Option (List ℕ)
-  pub read_faults : ℕ
+  pub read_faults : Faults
   pub written : Option (List ℕ)
-  pub write_faults : ℕ
+  pub write_faults : Faults
 
 -- the same, of these
-abbrev pub outside : Option (List ℕ) → ℕ → Option (List ℕ) → ℕ → Outside
+abbrev pub outside : Option (List ℕ) → Faults → Option (List ℕ) → Faults → Outside
 outside left read_faults written write_faults = record {
   left = left;
   read_faults = read_faults;
@@ -66,20 +67,20 @@ WroteSome words before after =
 
 -- with which status the program ends
 abbrev pub Ends : List Text → Outside → Outside → Status → Type 0
--- the words are a command, a read failed, and nothing was written
+-- the words are a command, of all reads the last alone failed, and nothing was written
 Ends words before after status.ReadFault =
-    IsTrue (is_built_command (command_in words)) × Rose before.read_faults after.read_faults × (after.written ≡ before.written)
-    × (after.write_faults ≡ before.write_faults)
--- a write failed, and a front of what was to be written was
+    IsTrue (is_built_command (command_in words)) × LastFailed before.read_faults after.read_faults × (after.written ≡ before.written)
+    × NoneFailed before.write_faults after.write_faults
+-- of all writes the last alone failed, no read did, and a front of what was to be written was
 Ends words before after status.WriteFault =
-    Rose before.write_faults after.write_faults × (after.read_faults ≡ before.read_faults)
+    LastFailed before.write_faults after.write_faults × NoneFailed before.read_faults after.read_faults
     × (v : Verdict) × Wants words before.left after.left v × WroteFront v.text before.written after.written
 -- there was no memory, and a front of what was to be written was, or nothing
 Ends words before after status.NoMemory =
-    (after.read_faults ≡ before.read_faults) × (after.write_faults ≡ before.write_faults) × WroteSome words before after
+    NoneFailed before.read_faults after.read_faults × NoneFailed before.write_faults after.write_faults × WroteSome words before after
 -- the verdict has this status, and its text was written, whole
 Ends words before after status =
-    (after.read_faults ≡ before.read_faults) × (after.write_faults ≡ before.write_faults)
+    NoneFailed before.read_faults after.read_faults × NoneFailed before.write_faults after.write_faults
     × (v : Verdict) × Wants words before.left after.left v × (v.status ≡ status) × Added v.text before.written after.written
 
 -- the status of this number is one with which the program ends so
@@ -87,13 +88,13 @@ abbrev pub EndsWith : List Text → Outside → Outside → ℕ → Type 0
 EndsWith words before after number = (status : Status) × (number ≡ number_of status) × Ends words before after status
 
 -- ---- when each status comes
--- no count of faults rose
+-- neither the last read nor the last write failed
 pub record NoFault (before after : Outside) : Type 0 where
-  pub read : Rose before.read_faults after.read_faults → ⊥
-  pub write : Rose before.write_faults after.write_faults → ⊥
+  pub read : LastFailed before.read_faults after.read_faults → ⊥
+  pub write : LastFailed before.write_faults after.write_faults → ⊥
 
--- the number is this status's only from this cause, and from this cause it is, unless a count of faults rose or there was
--- no memory
+-- the number is this status's only from this cause, and from this cause it is, unless a call failed or there was no
+-- memory
 pub record Exactly (before after : Outside) (number : ℕ) (st : Status) (Cause : Type 0) : Type 0 where
   pub only : number ≡ number_of st → Cause
   pub always : Cause → NoFault before after → (number ≡ number_of st) ⊎ (number ≡ number_of status.NoMemory)
@@ -103,14 +104,17 @@ abbrev pub ExactlyOf : List Text → Outside → Outside → ℕ → Status → 
 ExactlyOf words before after number st Cause =
     IfSome before.left (λ bytes. Exactly before after number st (IsTrue (is_built_command (command_in words)) × Cause bytes))
 
--- where the words are a command, the source tells a schedule whose node opens, and no count of faults rose: its transcript
+-- where the words are a command, the source tells a schedule whose node opens, and no call failed: its transcript
 -- was written, whole, and the status is that of success, or there was no memory
 abbrev pub Complete : List Text → Outside → Outside → ℕ → Type 0
 Complete words before after number = IfSome before.left (λ bytes.
     (s : Schedule) → IsTrue (is_built_command (command_in words)) → IsReplayable bytes s → NoFault before after
     → ((number ≡ number_of status.Ok) × Added (transcript s) before.written after.written) ⊎ (number ≡ number_of status.NoMemory))
 
--- the status of a fault comes only where its count rose
-pub record FaultsAreCounted (before after : Outside) (number : ℕ) : Type 0 where
-  pub read : number ≡ number_of status.ReadFault → Rose before.read_faults after.read_faults
-  pub write : number ≡ number_of status.WriteFault → Rose before.write_faults after.write_faults
+-- The first failure ends the run: with the status of a read fault one read failed, and it was the last, and with any other
+-- none did; and so it is with writes.
+pub record FaultsEndTheRun (before after : Outside) (number : ℕ) : Type 0 where
+  pub read : number ≡ number_of status.ReadFault → LastFailed before.read_faults after.read_faults
+  pub write : number ≡ number_of status.WriteFault → LastFailed before.write_faults after.write_faults
+  pub no_read : (number ≡ number_of status.ReadFault → ⊥) → NoneFailed before.read_faults after.read_faults
+  pub no_write : (number ≡ number_of status.WriteFault → ⊥) → NoneFailed before.write_faults after.write_faults

@@ -1,6 +1,7 @@
 -- What a command line and its input ask for, and how serving it ends. No public clause cites this module.
 use Rattle.std.specs.Prelude.{◌≡◌, ℕ, true, List, Option, Some, None, IsTrue, Result, Err}
-use Rattle.cl_outside.specs.Counts.{Rose}
+use Rattle.cl_outside.specs.Counts.{LastFailed, NoneFailed}
+use Rattle.cl_outside.specs.declared.faults.Faults.{Faults}
 use Rattle.cl_types.specs.declared.schedule.Schedule.{Schedule}
 use Rattle.flat_model.specs.Commands.{command_in}
 use Rattle.flat_model.specs.Text.{Text}
@@ -52,10 +53,10 @@ Asks words before after (wanted.Told output) = Wants words before after (verdict
 Asks words before after (wanted.Opened schedule world) =
     IsTrue (is_built_command (command_in words)) × AsksOf before after (wanted.Opened schedule world)
 
--- the count rose where a read failed, and else stands
-abbrev pub CountsHalt : ℕ → ℕ → Result Wanted Halt → Type 0
-CountsHalt before now (Err halt.ReadFault) = Rose before now
-CountsHalt before now other = now ≡ before
+-- of the reads that were made the last alone failed, where one did, and else none
+abbrev pub CountsHalt : Faults → Faults → Result Wanted Halt → Type 0
+CountsHalt before now (Err halt.ReadFault) = LastFailed before now
+CountsHalt before now other = NoneFailed before now
 
 -- what is left: with success the world of the schedule that was replayed, and else nothing
 abbrev pub Keeps : Outside → Outside → Left → Status → Type 0

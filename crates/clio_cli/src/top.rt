@@ -3,7 +3,7 @@
 ghost use Rattle.std.specs.Prelude.{◌≡◌, IfOk, IsErrOf, IsTrue, false};
 ghost use Rattle.flat_model.specs.Commands.{command_in};
 ghost use Rattle.clio_cli.specs.Headline.{EndsInHeadline, LeavesNothing};
-ghost use Rattle.clio_cli.specs.Run.{Complete, Ends, EndsWith, Exactly, ExactlyOf, FaultsAreCounted, outside};
+ghost use Rattle.clio_cli.specs.Run.{Complete, Ends, EndsWith, Exactly, ExactlyOf, FaultsEndTheRun, outside};
 ghost use Rattle.clio_cli.specs.Verdict.{HasBadNode, IsRefused, IsTooLong};
 ghost use Rattle.clio_cli.specs.Wanted.{Asks, AsksOf, CountsHalt, Keeps};
 ghost use Rattle.clio_cli.specs.Words.{is_built_command};
@@ -131,7 +131,7 @@ pub fn run<S: Source, K: Sink>(
         (outside (S.left source.old) (S.faults source.old) (K.written sink.old) (K.faults sink.old))
         (outside (S.left source.new) (S.faults source.new) (K.written sink.new) (K.faults sink.new))
         result Status.BadNode HasBadNode }
-    ensures faults { FaultsAreCounted
+    ensures faults { FaultsEndTheRun
         (outside (S.left source.old) (S.faults source.old) (K.written sink.old) (K.faults sink.old))
         (outside (S.left source.new) (S.faults source.new) (K.written sink.new) (K.faults sink.new))
         result }

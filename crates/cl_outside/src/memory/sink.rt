@@ -1,10 +1,12 @@
 //! `MemorySink`: a sink that keeps the bytes in memory.
 
 ghost use Rattle.std.specs.Prelude.{◌≡◌, ◌<◌, ◌≤◌, Some, [], length, IsTrue};
+ghost use Rattle.cl_outside.specs.Counts.{no_faults};
 ghost use Rattle.cl_outside.specs.Sink.{CountsWrite, Writes};
 ghost use Rattle.cl_outside.specs.Plan.{fails_next, after_call};
 ghost use Rattle.cl_outside.specs.Memory.{Store, TakesAll};
 
+use crate::faults::Faults;
 use crate::memory::plan::Plan;
 use crate::{Sink, Wrote};
 use std::alloc::Global;
@@ -16,7 +18,7 @@ use std::marker::Model;
 pub struct MemorySink {
     bytes: Vec<u8>,
     plan: Plan,
-    faults: u64,
+    faults: Faults,
 }
 
 impl Model for MemorySink {
@@ -34,13 +36,13 @@ impl MemorySink {
         ensures { result ≡ record {
           written = [];
           plan = record { fails = fails.items; calls = 0 };
-          faults = 0;
+          faults = no_faults;
         } }
     {
         MemorySink {
             bytes: Vec::new(alloc),
             plan: Plan::create(fails),
-            faults: 0,
+            faults: Faults::none(),
         }
     }
 
@@ -60,16 +62,16 @@ impl Sink for MemorySink {
     fn write(&mut self, piece: &[u8]) -> Wrote
         requires { 0 < length piece.now }
         ensures bytes { Writes (Some self.old.written) (Some self.new.written) piece.now result }
-        ensures later { self.old.faults ≤ self.new.faults }
         ensures cause { CountsWrite self.old.faults self.new.faults result }
         ensures fails { IsTrue (fails_next self.old.plan) → result ≡ Wrote.Failed }
         ensures plan { self.new.plan ≡ after_call self.old.plan }
         ensures whole { TakesAll piece.now result }
     {
         if self.plan.next_fails() || self.bytes.extend_from_slice(piece).is_err() {
-            self.faults = self.faults.saturating_add(1);
+            self.faults.fail();
             return Wrote::Failed;
         }
+        self.faults.pass();
         Wrote::Put(piece.len())
     }
 }

@@ -1,10 +1,12 @@
 //! `MemorySource`: a source over bytes in memory.
 
 ghost use Rattle.std.specs.Prelude.{◌≡◌, ◌<◌, ◌≤◌, ◌↔◌, Some, length, IsTrue};
+ghost use Rattle.cl_outside.specs.Counts.{no_faults};
 ghost use Rattle.cl_outside.specs.Source.{CountsRead, Reads};
 ghost use Rattle.cl_outside.specs.Plan.{fails_next, after_call};
 ghost use Rattle.cl_outside.specs.Memory.{Feed, GivesWhatFits};
 
+use crate::faults::Faults;
 use crate::front::copy_front;
 use crate::memory::plan::Plan;
 use crate::{Read, Source};
@@ -18,7 +20,7 @@ pub struct MemorySource {
     // How many of the bytes were given.
     at: usize,
     plan: Plan,
-    faults: u64,
+    faults: Faults,
 }
 
 impl Model for MemorySource {
@@ -42,14 +44,14 @@ impl MemorySource {
         ensures { result ≡ record {
           left = bytes.items;
           plan = record { fails = fails.items; calls = 0 };
-          faults = 0;
+          faults = no_faults;
         } }
     {
         MemorySource {
             bytes,
             at: 0,
             plan: Plan::create(fails),
-            faults: 0,
+            faults: Faults::none(),
         }
     }
 }
@@ -63,18 +65,18 @@ impl Source for MemorySource {
     fn read(&mut self, buf: &mut [u8]) -> Read
         requires { 0 < length buf.old }
         ensures bytes { Reads (Some self.old.left) (Some self.new.left) buf.new result }
-        ensures later { self.old.faults ≤ self.new.faults }
         ensures cause { CountsRead self.old.faults self.new.faults result }
         ensures fails { (result ≡ Read.Failed) ↔ IsTrue (fails_next self.old.plan) }
         ensures plan { self.new.plan ≡ after_call self.old.plan }
         ensures fits { GivesWhatFits self.old.left buf.old result }
     {
         if self.plan.next_fails() {
-            self.faults = self.faults.saturating_add(1);
+            self.faults.fail();
             return Read::Failed;
         }
         let (_, left) = self.bytes.split_at(self.at);
         let count = copy_front(left, buf);
+        self.faults.pass();
         if count == 0 {
             return Read::End;
         }

@@ -2,6 +2,7 @@
 
 ghost use Rattle.std.specs.Prelude.{◌≡◌, ◌≤◌, ◌↔◌, Some, None, [], ◌∷◌, ◌++◌, IsTrue, OnOk, OnErr};
 ghost use Rattle.std.specs.Option.{option_map};
+ghost use Rattle.cl_outside.specs.Counts.{no_faults};
 ghost use Rattle.cl_outside.specs.Bind.{CountsBind};
 ghost use Rattle.cl_outside.specs.Plan.{fails_next, after_call};
 ghost use Rattle.cl_outside.specs.Receive.{CountsIdle, CountsRecv, Receives};
@@ -9,6 +10,7 @@ ghost use Rattle.cl_outside.specs.Send.{CountsSend, Sends};
 ghost use Rattle.cl_outside.specs.Wire.{Binding, Message};
 ghost use Rattle.cl_outside.specs.Memory.{Script};
 
+use crate::faults::Faults;
 use crate::front::copy_front;
 use crate::memory::plan::Plan;
 use crate::{Bound, Peer, Recv, Sent, Wire};
@@ -45,7 +47,7 @@ pub struct ScriptWire {
     sent: Vec<Datagram>,
     recv_plan: Plan,
     send_plan: Plan,
-    faults: u64,
+    faults: Faults,
     idles: u64,
 }
 
@@ -85,7 +87,7 @@ impl ScriptWire {
           sent = [];
           recv_plan = record { fails = recv_fails.items; calls = 0 };
           send_plan = record { fails = send_fails.items; calls = 0 };
-          faults = 0;
+          faults = no_faults;
           idles = 0;
         } }
     {
@@ -98,7 +100,7 @@ impl ScriptWire {
             sent: Vec::new(alloc),
             recv_plan: Plan::create(recv_fails),
             send_plan: Plan::create(send_fails),
-            faults: 0,
+            faults: Faults::none(),
             idles: 0,
         }
     }
@@ -139,7 +141,6 @@ impl Wire for ScriptWire {
         ensures coming { self.new.coming ≡ self.old.coming }
         ensures sent { self.new.sent ≡ self.old.sent }
         ensures idles { self.new.idles ≡ self.old.idles }
-        ensures later { self.old.faults ≤ self.new.faults }
         ensures cause { CountsBind self.old.faults self.new.faults result }
         ensures answer { result ≡ self.old.bound }
         ensures bound { self.new.bound ≡ self.old.bound }
@@ -147,8 +148,9 @@ impl Wire for ScriptWire {
         ensures send_plan { self.new.send_plan ≡ self.old.send_plan }
     {
         self.last_bind = Some((port, self.bound));
-        if self.bound == Bound::Failed {
-            self.faults = self.faults.saturating_add(1);
+        match self.bound {
+            Bound::Port(_) => self.faults.pass(),
+            Bound::Failed => self.faults.fail(),
         }
         self.bound
     }
@@ -158,7 +160,6 @@ impl Wire for ScriptWire {
         ensures sent { self.new.sent ≡ self.old.sent }
         ensures last_bind { self.new.last_bind ≡ self.old.last_bind }
         ensures idles { CountsIdle self.old.idles self.new.idles result }
-        ensures later { self.old.faults ≤ self.new.faults }
         ensures cause { CountsRecv self.old.faults self.new.faults result }
         ensures fails { (result ≡ Recv.Failed) ↔ IsTrue (fails_next self.old.recv_plan) }
         ensures bound { self.new.bound ≡ self.old.bound }
@@ -166,9 +167,10 @@ impl Wire for ScriptWire {
         ensures send_plan { self.new.send_plan ≡ self.old.send_plan }
     {
         if self.recv_plan.next_fails() {
-            self.faults = self.faults.saturating_add(1);
+            self.faults.fail();
             return Recv::Failed;
         }
+        self.faults.pass();
         let Some(datagram) = self.datagrams.get(self.at) else {
             self.idles = self.idles.saturating_add(1);
             return Recv::Idle;
@@ -186,7 +188,6 @@ impl Wire for ScriptWire {
         ensures coming { self.new.coming ≡ self.old.coming }
         ensures last_bind { self.new.last_bind ≡ self.old.last_bind }
         ensures idles { self.new.idles ≡ self.old.idles }
-        ensures later { self.old.faults ≤ self.new.faults }
         ensures cause { CountsSend self.old.faults self.new.faults result }
         ensures fails { IsTrue (fails_next self.old.send_plan) → result ≡ Sent.Failed }
         ensures bound { self.new.bound ≡ self.old.bound }
@@ -194,9 +195,10 @@ impl Wire for ScriptWire {
         ensures send_plan { self.new.send_plan ≡ after_call self.old.send_plan }
     {
         if self.send_plan.next_fails() || self.keep(to, bytes).is_err() {
-            self.faults = self.faults.saturating_add(1);
+            self.faults.fail();
             return Sent::Failed;
         }
+        self.faults.pass();
         Sent::Sent
     }
 }

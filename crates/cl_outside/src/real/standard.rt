@@ -1,7 +1,9 @@
 //! `StdSource` and `StdSink`: std's readers and writers, as standard input and output.
 
 ghost use Rattle.std.specs.Prelude.{◌≡◌, None};
+ghost use Rattle.cl_outside.specs.Counts.{no_faults};
 
+use crate::faults::Faults;
 use crate::{Read, Sink, Source, Wrote};
 use std::io;
 
@@ -9,15 +11,18 @@ use std::io;
 #[derive(Drop)]
 pub struct StdSource<R> {
     reader: R,
-    faults: u64,
+    faults: Faults,
 }
 
 impl<R> StdSource<R> {
     /// A source over this reader, as `rt.stdin()`.
     pub fn create(reader: R) -> Self
-        ensures { result.faults ≡ 0 }
+        ensures { result.faults ≡ no_faults }
     {
-        StdSource { reader, faults: 0 }
+        StdSource {
+            reader,
+            faults: Faults::none(),
+        }
     }
 }
 
@@ -28,10 +33,15 @@ impl<R: io::Read> Source for StdSource<R> {
 
     fn read(&mut self, buf: &mut [u8]) -> Read {
         match self.reader.read(buf) {
-            Ok(0) => Read::End,
-            Ok(count) => Read::Got(count),
+            Ok(count) => {
+                self.faults.pass();
+                if count == 0 {
+                    return Read::End;
+                }
+                Read::Got(count)
+            }
             Err(_) => {
-                self.faults = self.faults.saturating_add(1);
+                self.faults.fail();
                 Read::Failed
             }
         }
@@ -46,16 +56,19 @@ impl<R: io::Read> Source for StdSource<R> {
 #[derive(Drop)]
 pub struct StdSink<W> {
     writer: W,
-    faults: u64,
+    faults: Faults,
 }
 
 impl<W> StdSink<W> {
     /// A sink over this writer, as `rt.stdout()`, which has no buffer. Bytes that a writer with a
     /// buffer holds are told as put, and only its own flush shows whether they arrive.
     pub fn create(writer: W) -> Self
-        ensures { result.faults ≡ 0 }
+        ensures { result.faults ≡ no_faults }
     {
-        StdSink { writer, faults: 0 }
+        StdSink {
+            writer,
+            faults: Faults::none(),
+        }
     }
 }
 
@@ -67,10 +80,13 @@ impl<W: io::Write> Sink for StdSink<W> {
     fn write(&mut self, piece: &[u8]) -> Wrote {
         match self.writer.write(piece) {
             Ok(0) | Err(_) => {
-                self.faults = self.faults.saturating_add(1);
+                self.faults.fail();
                 Wrote::Failed
             }
-            Ok(count) => Wrote::Put(count),
+            Ok(count) => {
+                self.faults.pass();
+                Wrote::Put(count)
+            }
         }
     }
 }

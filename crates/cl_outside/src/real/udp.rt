@@ -1,7 +1,9 @@
 //! `UdpWire`: datagrams of UDP on 127.0.0.1.
 
 ghost use Rattle.std.specs.Prelude.{◌≡◌, ◌≤◌, None, IfOk, length};
+ghost use Rattle.cl_outside.specs.Counts.{no_faults};
 
+use crate::faults::Faults;
 use crate::front::copy_front;
 use crate::real::TICK_MILLIS;
 use crate::{Bound, Peer, Recv, Sent, Wire};
@@ -20,20 +22,20 @@ pub struct UdpWire<N> {
     net: N,
     // `None` where the wire has no port.
     socket: Option<UdpSocket>,
-    faults: u64,
+    faults: Faults,
     idles: u64,
 }
 
 impl<N: Net> UdpWire<N> {
     /// A wire with no port, over this network, as `&rt`.
     pub fn create(net: N) -> Self
-        ensures faults { result.faults ≡ 0 }
+        ensures faults { result.faults ≡ no_faults }
         ensures idles { result.idles ≡ 0 }
     {
         UdpWire {
             net,
             socket: None,
-            faults: 0,
+            faults: Faults::none(),
             idles: 0,
         }
     }
@@ -100,10 +102,11 @@ impl<N: Net> Wire for UdpWire<N> {
         match self.open(port) {
             Ok((socket, port)) => {
                 self.socket = Some(socket);
+                self.faults.pass();
                 Bound::Port(port)
             }
             Err(_) => {
-                self.faults = self.faults.saturating_add(1);
+                self.faults.fail();
                 Bound::Failed
             }
         }
@@ -112,16 +115,20 @@ impl<N: Net> Wire for UdpWire<N> {
     fn recv(&mut self, buf: &mut [u8]) -> Recv {
         let mut datagram = [0u8; DATAGRAM_BYTES];
         match self.receive(&mut datagram) {
-            Ok((len, from)) => Recv::Got {
-                len: copy_front(&datagram[..len], buf),
-                from,
-            },
+            Ok((len, from)) => {
+                self.faults.pass();
+                Recv::Got {
+                    len: copy_front(&datagram[..len], buf),
+                    from,
+                }
+            }
             Err(error) if is_wait_over(&error) => {
                 self.idles = self.idles.saturating_add(1);
+                self.faults.pass();
                 Recv::Idle
             }
             Err(_) => {
-                self.faults = self.faults.saturating_add(1);
+                self.faults.fail();
                 Recv::Failed
             }
         }
@@ -129,9 +136,12 @@ impl<N: Net> Wire for UdpWire<N> {
 
     fn send(&mut self, to: Peer, bytes: &[u8]) -> Sent {
         match self.send_to(to, bytes) {
-            Ok(count) if count == bytes.len() => Sent::Sent,
+            Ok(count) if count == bytes.len() => {
+                self.faults.pass();
+                Sent::Sent
+            }
             _ => {
-                self.faults = self.faults.saturating_add(1);
+                self.faults.fail();
                 Sent::Failed
             }
         }

@@ -7,7 +7,7 @@ use Rattle.cl_outside.proofs.loops.read_input.Given as goal
 abbrev pub invariant-loop-source : goal.invariant-loop-source
 invariant-loop-source g l =
     Took l.bytes.items (g.S.Source.left l.fn.source) (g.S.Source.left l.source)
-    × (g.S.Source.faults l.source ≡ g.S.Source.faults l.fn.source)
+    × ((g.S.Source.faults l.source).count ≡ (g.S.Source.faults l.fn.source).count)
     × (length l.bytes.items ≤ INPUT_LIMIT + 1)
 
 abbrev pub decreases-loop-source : goal.decreases-loop-source
