@@ -22,16 +22,16 @@ use Rattle.flat_model.specs.State.{FlatState}
 use Rattle.flat_model.specs.Frames.{status_in}
 use Rattle.flat_model.specs.Account.{Account, Line, Frame, Carried, Load, Asks, Answers, Effect, says, joined_by, extended, frame_at, is_before, with_entries, items_of, if_taken_of, memory_at, recorded, entries_before, next_frame_number, nothing_yet}
 use Rattle.flat_model.specs.Client.{Sending}
-use Rattle.flat_model.specs.Clients.{request_of_part, client_at}
+use Rattle.flat_model.specs.Clients.{first_sent, request_of_part, client_at}
 use Rattle.flat_model.specs.Handling.{Handling, Repeats, RefusesForNow, Executes, Looks, item_outcome}
 use Rattle.flat_model.specs.Properties.{is_delivery, CarriesPart, Handles, IsFirst, StandsAt, Differ, AreDistinct}
 use Rattle.flat_model.specs.Events.{entry_of, handled, item_handling, on_flight, on_item, on_items, effect, account, account_from, keep_all}
 use Rattle.account_laws.specs.Histories.{LawOfStands}
 use Rattle.account_laws.specs.Schedules.{IsRisingFrom, AreTyped}
-use Rattle.account_laws.proofs.Lists.{each_append, each_weaker, each_weaker_with, each_with_entries, none_some}
+use Rattle.account_laws.proofs.Lists.{each_append, each_slice_get, each_weaker, each_weaker_with, each_with_entries, none_some}
 use Rattle.account_laws.proofs.SameParts.{contrary}
 use Rattle.account_laws.proofs.Items.{Tells, handling_tells}
-use Rattle.account_laws.proofs.Standings.{line_of, frame_kept}
+use Rattle.account_laws.proofs.Standings.{line_of, frame_kept, sent_kept}
 use Rattle.account_laws.proofs.Cases.{IsQuiet, IsGiven, Cases, peek_is_quiet, effect_by}
 use Rattle.account_laws.proofs.TimesKept.{frame_at_each}
 use Rattle.account_laws.proofs.Places.{line_of_before}
@@ -75,8 +75,11 @@ record PlacedAt (a : Account) (e : Entry) (how : How) (reply_frame : ℕ) : Type
   item : Carried
   at_position : slice_get (items_of frame.load) e.position ≡ Some item
   carries : CarriesPart e.client e.part item
-  status : ℕ
-  text : slice_get line.texts e.position ≡ Some (did.Handled frame_number e.client e.part how status reply_frame)
+  request : item.item.request ≡ e.request
+  process : item.item.head.pid ≡ e.pid
+  first_moment : ℕ
+  first : first_sent a e.client e.part ≡ Some (item.item.head.orig, first_moment)
+  text : slice_get line.texts e.position ≡ Some (did.Handled frame_number e.client e.part how (status_in e.reply) reply_frame)
 
 -- an entry that a look left, in the frame of this number
 record Waits (a : Account) (n : ℕ) (e : Entry) : Type 0 where
@@ -112,7 +115,10 @@ placed_kept a l event e x how n h = record {
   item = h.item;
   at_position = h.at_position;
   carries = h.carries;
-  status = h.status;
+  request = h.request;
+  process = h.process;
+  first_moment = h.first_moment;
+  first = sent_kept a l event e x.client x.part (h.item.item.head.orig, h.first_moment) h.first;
   text = h.text;
 }
 
@@ -133,8 +139,11 @@ stands_kept a l event e x low h = record {
   item = h.item;
   at_position = h.at_position;
   carries = h.carries;
+  request = h.request;
+  process = h.process;
+  first_moment = h.first_moment;
+  first = sent_kept a l event e x.client x.part (h.item.item.head.orig, h.first_moment) h.first;
   how = h.how;
-  status = h.status;
   reply_frame = h.reply_frame;
   text = h.text;
   changing = λ c. let k = h.changing c in (k.0, first_kept a l event e h.line x.client x.part (let n : h.line.number ≡ x.line = h.number in omega arith) k.1);
@@ -184,8 +193,9 @@ record PlaceOf (k l q : ℕ) (items : List Carried) (texts : List Did) (how : Ho
   item : Carried
   at_place : slice_get items place ≡ Some item
   carries : CarriesPart x.client x.part item
-  status : ℕ
-  text : slice_get texts place ≡ Some (did.Handled k x.client x.part how status n)
+  request : item.item.request ≡ x.request
+  process : item.item.head.pid ≡ x.pid
+  text : slice_get texts place ≡ Some (did.Handled k x.client x.part how (status_in x.reply) n)
 
 -- no line so far handled the part
 abbrev NoneEarlier : Account → ClientNo → Part → Type 0
@@ -239,20 +249,22 @@ place_behind k l q i is first rest how n x shift h = record {
   item = h.item;
   at_place = h.at_place;
   carries = h.carries;
-  status = h.status;
+  request = h.request;
+  process = h.process;
   text = shift h.place ∙ h.text;
 }
 
-entry_place : (k l q : ℕ) (i : Carried) (is : List Carried) (rest : List Did) (how : How) (status n : ℕ) (reply : Reply)
-    → PlaceOf k l q (i ∷ is) (did.Handled k i.item.head.client i.part how status n ∷ rest) how n (entry_of l q i reply)
-entry_place k l q i is rest how status n reply = record {
+entry_place : (k l q : ℕ) (i : Carried) (is : List Carried) (rest : List Did) (how : How) (n : ℕ) (reply : Reply)
+    → PlaceOf k l q (i ∷ is) (did.Handled k i.item.head.client i.part how (status_in reply) n ∷ rest) how n (entry_of l q i reply)
+entry_place k l q i is rest how n reply = record {
   line = refl;
   place = 0;
   position = omega arith;
   item = i;
   at_place = refl;
   carries = record { client = refl; part = refl };
-  status = status;
+  request = refl;
+  process = refl;
   text = refl;
 }
 
@@ -285,7 +297,7 @@ handled_stand config a b l k q i is rest retry w owned before more so s Executes
       (
         record {
           reply_frame = next_frame_number b;
-          place = entry_place k l q i is rest Executed (status_in (item_outcome s i.item).reply) (next_frame_number b) (item_outcome s i.item).reply;
+          place = entry_place k l q i is rest Executed (next_frame_number b) (item_outcome s i.item).reply;
           changing = tells.0;
           first = never_handled a a.history i.item.head.client i.part i.item.request w.request tells.0
               (λ r h. has_none (entry_of l q i (item_outcome s i.item).reply) b.history i.item.head.client i.part r refl refl none (more i.item.head.client i.part r h)) so;
@@ -297,7 +309,7 @@ handled_stand config a b l k q i is rest retry w owned before more so s Executes
     )
 handled_stand config a b l k q i is rest retry w owned before more so s Looks tells = (
   tt,
-  ((record { place = entry_place k l q i is rest Looked (status_in (item_outcome s i.item).reply) (next_frame_number b) (item_outcome s i.item).reply; reading = tells }, tt), tt),
+  ((record { place = entry_place k l q i is rest Looked (next_frame_number b) (item_outcome s i.item).reply; reading = tells }, tt), tt),
   (record { request = i.item.request; its = w.request; entered = λ changing. absurd (contrary (is_changing i.item.request) changing tells) }, tt),
 )
 
@@ -344,10 +356,11 @@ items_stand config a l k (i ∷ is) b q w g owned distinct ran more so =
 
 -- ---- a delivery at the node
 module _ (config : Config) (a : Account) (l : ℕ) (event : Event) (k : ℕ) (frame : Frame) (items : List Carried) (delivers : is_delivery event ≡ true) (given : IsGiven a l k frame (Asks items)) where
-  now_placed : (how : How) (n : ℕ) (x : Entry) → PlaceOf k l 0 items (on_items keep_all config a l k 0 items).texts how n x → PlacedAt (extended a l event (on_items keep_all config a l k 0 items)) x how n
-  now_placed how n x h =
+  now_placed : Each (ItemOwned config a) items → (how : How) (n : ℕ) (x : Entry) → PlaceOf k l 0 items (on_items keep_all config a l k 0 items).texts how n x → PlacedAt (extended a l event (on_items keep_all config a l k 0 items)) x how n
+  now_placed owned how n x h =
       let place : x.position ≡ 0 + h.place = h.position in
       let at_it : x.position ≡ h.place = omega arith in
+      let its : ItemOwned config a h.item = each_slice_get (ItemOwned config a) items h.place h.item owned h.at_place in
       record {
         line = line_of a l event (on_items keep_all config a l k 0 items);
         there = Contains-push a.lines (line_of a l event (on_items keep_all config a l k 0 items));
@@ -360,14 +373,18 @@ module _ (config : Config) (a : Account) (l : ℕ) (event : Event) (k : ℕ) (fr
         item = h.item;
         at_position = ap (λ (z : Load). slice_get (items_of z) x.position) given.carries ∙ ap (slice_get items) at_it ∙ h.at_place;
         carries = h.carries;
-        status = h.status;
+        request = h.request;
+        process = h.process;
+        first_moment = its.moment;
+        first = sent_kept a l event (on_items keep_all config a l k 0 items) x.client x.part (h.item.item.head.orig, its.moment)
+            (ap (λ (c : ClientNo). first_sent a c x.part) h.carries.client ∙ ap (first_sent a h.item.item.head.client) h.carries.part ∙ its.sent);
         text = ap (slice_get (on_items keep_all config a l k 0 items).texts) at_it ∙ h.text;
       }
 
-  executed_stands : (x : Entry) → Executions a k l 0 items (on_items keep_all config a l k 0 items).texts x → StandsAt (extended a l event (on_items keep_all config a l k 0 items)) x
+  executed_stands : Each (ItemOwned config a) items → (x : Entry) → Executions a k l 0 items (on_items keep_all config a l k 0 items).texts x → StandsAt (extended a l event (on_items keep_all config a l k 0 items)) x
   unfolding now_placed
-  executed_stands x h =
-      let p : PlacedAt (extended a l event (on_items keep_all config a l k 0 items)) x Executed h.reply_frame = now_placed Executed h.reply_frame x h.place in
+  executed_stands owned x h =
+      let p : PlacedAt (extended a l event (on_items keep_all config a l k 0 items)) x Executed h.reply_frame = now_placed owned Executed h.reply_frame x h.place in
       record {
         line = line_of a l event (on_items keep_all config a l k 0 items);
         there = p.there;
@@ -380,8 +397,11 @@ module _ (config : Config) (a : Account) (l : ℕ) (event : Event) (k : ℕ) (fr
         item = p.item;
         at_position = p.at_position;
         carries = p.carries;
+        request = p.request;
+        process = p.process;
+        first_moment = p.first_moment;
+        first = p.first;
         how = Executed;
-        status = p.status;
         reply_frame = h.reply_frame;
         text = p.text;
         changing = λ c. (refl, each_append _ a.lines (line_of a l event (on_items keep_all config a l k 0 items) ∷ []) (each_weaker _ _ (λ other never earlier. never) a.lines h.first) ((λ earlier. absurd (omega arith)), tt));
@@ -396,8 +416,8 @@ module _ (config : Config) (a : Account) (l : ℕ) (event : Event) (k : ℕ) (fr
       let x : ItemsStand a a k l 0 items (on_items keep_all config a l k 0 items) =
       items_stand config a l k items a 0 owned in_range base.once.entries base.once.distinct base.ran (λ c p reply h. h) all.handled_so in
       record {
-        stands = each_weaker _ _ executed_stands (on_items keep_all config a l k 0 items).entries x.entries;
-        waits = each_from_weaker _ _ (λ n g. each_weaker _ _ (λ y h. record { placed = now_placed Looked n y h.place; reading = h.reading }) (if_taken_of g.load)) (next_frame_number a) (on_items keep_all config a l k 0 items).frames x.waits;
+        stands = each_weaker _ _ (executed_stands owned) (on_items keep_all config a l k 0 items).entries x.entries;
+        waits = each_from_weaker _ _ (λ n g. each_weaker _ _ (λ y h. record { placed = now_placed owned Looked n y h.place; reading = h.reading }) (if_taken_of g.load)) (next_frame_number a) (on_items keep_all config a l k 0 items).frames x.waits;
         handled_so = each_weaker _ _ (handled_kept a l event (on_items keep_all config a l k 0 items) [] (with_entries (on_items keep_all config a l k 0 items).entries a.history)) (on_items keep_all config a l k 0 items).texts x.texts;
       }
 
@@ -436,8 +456,11 @@ taken_stands config a l event k head reply if_taken f x waits of =
       item = p.item;
       at_position = p.at_position;
       carries = p.carries;
+      request = p.request;
+      process = p.process;
+      first_moment = p.first_moment;
+      first = p.first;
       how = Looked;
-      status = p.status;
       reply_frame = k;
       text = p.text;
       changing = λ c. absurd (contrary (is_changing x.request) c waits.reading);

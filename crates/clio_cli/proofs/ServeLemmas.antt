@@ -1,6 +1,7 @@
 -- How serving a command line ends, by what it asked for.
-use Rattle.std.proofs.Common.{◌≡◌, inl, inr, ℕ, ◌≤◌, Bool, true, false, List, ◌∷◌, Option, Some, None, refl, sym, ap, subst, arith, length}
-use Rattle.std.specs.Prelude.{if◌then◌else◌, leb}
+use Rattle.std.proofs.Common.{◌≡◌, inl, inr, ℕ, ◌+◌, ◌<◌, ◌≤◌, Bool, true, false, List, [], ◌∷◌, Option, Some, None, refl, sym, ap, subst, arith, length}
+use Rattle.std.specs.Prelude.{◌^◌, if◌then◌else◌, leb}
+use Rattle.std.specs.List.{AllByRecursion as Each}
 use Rattle.std.proofs.lemmas.Bool.Decides.{nat_tests}
 use Rattle.cl_outside.specs.Counts.{NoneFailed}
 use Rattle.cl_outside.specs.Loops.{WroteFront}
@@ -10,16 +11,18 @@ use Rattle.cl_types.specs.Places.{is_bucket_count}
 use Rattle.cl_types.specs.declared.config.Field.{Field}
 use Rattle.cl_types.specs.declared.config.Field.TheVariants as field
 use Rattle.cl_types.specs.declared.config.NodeConfig.{NodeConfig}
+use Rattle.cl_types.specs.declared.schedule.Event.{Event}
 use Rattle.cl_types.specs.declared.schedule.Schedule.{Schedule}
 use Rattle.flat_model.specs.Events.{keep_all}
 use Rattle.flat_model.specs.Opening.{if_none_bad, open_fault, room_fault}
 use Rattle.flat_model.specs.declared.open_fault.OpenFault.{OpenFault}
 use Rattle.flat_model.specs.Text.{Text}
 use Rattle.flat_model.specs.Texts.{transcript}
+use Rattle.account_laws.specs.Schedules.{IsRisingFrom}
 use Rattle.account_laws.proofs.AddsUp.{summaries_add_up}
 use Rattle.account_laws.proofs.ReadSchedules.{schedules_are_good}
 use Rattle.account_laws.proofs.SameParts.{and_left}
-use Rattle.account_laws.proofs.Spelled.{rises_from_zero}
+use Rattle.account_laws.proofs.Spelled.{frames_are_spelled, rises_from_zero}
 use Rattle.account_laws.proofs.WindowKept.{one_account}
 use Rattle.world.specs.Running.{Running}
 use Rattle.clio_cli.specs.Replay.{IsServed, Plays}
@@ -69,6 +72,14 @@ served_of bytes s good = record {
   keeps = opens_keeping s.config.node good.opens;
 }
 
+-- there are no more events than lines
+few_events : (n most : ℕ) (events : List (ℕ × Event)) → IsRisingFrom n events → Each (λ (e : ℕ × Event). e.0 < most) events → n ≤ most → n + length events ≤ most
+few_events n most [] rising below le = omega (arith, le)
+few_events n most (e ∷ events) rising below le =
+    let low : e.0 < most = below.0 in
+    let rest : e.0 + 1 + length events ≤ most = few_events (e.0 + 1) most events rising.1 below.1 (omega (arith, low)) in
+    omega (arith, rising.0, rest)
+
 -- ---- a text
 pub refusal_keeps : (before after : Outside) (kept : Left) (st : Status) → IsRefusal st → kept ≡ left.Nothing → Keeps before after kept st
 refusal_keeps before after kept status.BadWords refusal nothing = nothing
@@ -97,6 +108,9 @@ module _ (words : List Text) (before after : Outside) (s : Schedule) (w : Runnin
   wants : Wants words before.left after.left v
   wants = subst (λ built. WantsBy built before.left after.left v) (sym asks.0) (asks.1.0, inl asks.1.1, refl)
 
+  few_enough : length s.events < 2 ^ 64
+  few_enough = let few : 1 + length s.events ≤ 2 ^ 29 = few_events 1 (2 ^ 29) s.events served.good.rising served.suited.bounded (omega arith) in omega (arith, few)
+
   pub plays_end : (st : Status) → Plays s before.written after.written before.write_faults after.write_faults kept st → Ends words before after st
   plays_end status.Ok (added, writes, world, left, stands) =
       (reads, writes, v, wants, replayed_status asks.1.0 s good, subst (λ (t : Text). Added t before.written after.written) (sym text_is) added)
@@ -116,6 +130,7 @@ module _ (words : List Text) (before after : Outside) (s : Schedule) (w : Runnin
     replayable = good;
     printed = added;
     headline = headline_law asks.1.0 s good.spelled;
+    frames = frames_are_spelled s.config s.events served.good few_enough;
     counts = summaries_add_up keep_all s.config s.events served.good.known served.suited.apart;
     same = one_account s.config s.events served.keeps (rises_from_zero s.events served.good.rising) served.good.typed;
     world = world;

@@ -1,15 +1,17 @@
 -- What every history that is printed keeps.
 use Rattle.std.specs.Prelude.{◌≡◌, ℕ, List, Ok}
+use Rattle.std.specs.List.{AllByRecursion as Each}
 use Rattle.cl_outside.specs.Told.{Added}
 use Rattle.cl_types.specs.declared.config.Config.{Config}
 use Rattle.cl_types.specs.declared.schedule.Schedule.{Schedule}
-use Rattle.flat_model.specs.Account.{Account}
+use Rattle.flat_model.specs.Account.{Account, Frame}
 use Rattle.flat_model.specs.Events.{account, account_of_latest}
 use Rattle.flat_model.specs.Grammar.{schedule_of}
 use Rattle.flat_model.specs.Properties.{Once, Ordered, Peeks, Stands}
 use Rattle.flat_model.specs.Run.{IsRun}
 use Rattle.flat_model.specs.Texts.{transcript}
 use Rattle.account_laws.specs.Ends.{AddsUp}
+use Rattle.account_laws.specs.Spelled.{SpellsLoad}
 use Rattle.account_laws.specs.Times.{AreOfAge}
 use Rattle.clio_cli.specs.Run.{IsInput, Outside}
 use Rattle.clio_cli.specs.Status.{number_of}
@@ -24,7 +26,7 @@ use Rattle.clio_cli.specs.declared.status.Status.TheVariants as status
 pub record Headline (config : Config) (a : Account) : Type 0 where
   -- the history is a run of the flat machine from empty spaces, which read as zeros
   pub run : IsRun config.node a.history
-  -- each entry stands at a delivery of its own frame
+  -- each entry stands at a delivery of its own frame, which asks its request under the id of its part's first sending
   pub stands : Stands a
   -- each part of an answered call is there exactly once, with the reply that made its answer, and any other at most once
   pub once : Once config a
@@ -48,6 +50,8 @@ pub record Replays (before after : Outside) (kept : Left) : Type 0 where
   pub replayable : IsReplayable bytes schedule
   pub printed : Added (transcript schedule) before.written after.written
   pub headline : Headline schedule.config (account schedule.config schedule.events)
+  -- the bytes of each frame spell what the account says that it carries
+  pub frames : Each (λ (f : Frame). SpellsLoad f.bytes f.line f.load) (account schedule.config schedule.events).frames
   -- as many calls were issued as are done, refused, timed out and unended together
   pub counts : AddsUp schedule.config (account schedule.config schedule.events)
   -- it is the account off which the world is read, whose node keeps its latest records alone

@@ -21,8 +21,9 @@ use Rattle.flat_model.specs.Cut.{Ending, Replied, combine, answer_bytes}
 use Rattle.flat_model.specs.Order.{depends}
 use Rattle.flat_model.specs.Client.{every, parts_named}
 use Rattle.flat_model.specs.Account.{Account, Line, Frame, Carried, frame_at, items_of, is_before, memory_at}
-use Rattle.flat_model.specs.Clients.{issued, call_at, request_of_part, pid_of}
+use Rattle.flat_model.specs.Clients.{issued, call_at, first_sent, request_of_part, pid_of}
 use Rattle.flat_model.specs.Events.{record_of, on_peek}
+use Rattle.flat_model.specs.Frames.{status_in}
 
 -- ---- in order
 -- no later entry of the list is at an earlier line and position
@@ -70,11 +71,15 @@ pub record StandsAt (a : Account) (e : Entry) : Type 0 where
   pub item : Carried
   pub at_position : slice_get (items_of frame.load) e.position ≡ Some item
   pub carries : CarriesPart e.client e.part item
-  -- and tells how it was handled
+  -- the item is the entry's: its request, by its process, under the id under which the part was first sent
+  pub request : item.item.request ≡ e.request
+  pub process : item.item.head.pid ≡ e.pid
+  pub first_moment : ℕ
+  pub first : first_sent a e.client e.part ≡ Some (item.item.head.orig, first_moment)
+  -- and tells how it was handled, with the status of the entry's reply
   pub how : How
-  pub status : ℕ
   pub reply_frame : ℕ
-  pub text : slice_get line.texts e.position ≡ Some (did.Handled frame_number e.client e.part how status reply_frame)
+  pub text : slice_get line.texts e.position ≡ Some (did.Handled frame_number e.client e.part how (status_in e.reply) reply_frame)
   -- a changing part: the first delivery at which the node was not busy
   pub changing : is_changing e.request ≡ true → (how ≡ Executed) × IsFirst a line e.client e.part
   -- a reading part: the one that made the reply which the client took
