@@ -8,8 +8,8 @@ use Rattle.cl_types.specs.declared.frame.BadFrame.{BadFrame}
 use Rattle.cl_types.specs.declared.limits.TheConstants.{SPAN}
 use Rattle.flat_model.specs.Frames.{Item, request_fault}
 use Rattle.flat_model.specs.Handling.{Handling, Repeats, RefusesForNow, Executes, Looks, handling, item_outcome, latest, oldest_of}
-use Rattle.flat_model.specs.Nodes.{Name, Record, Node, NodeStep, Says, name_of, same_name, record_named, handles, node_after, said_to, items_judged, items_read, answer_judged, node_answer, node_given, keep_every, keeping, ideal}
-use Rattle.account_laws.specs.Span.{Given, answers_to, if_executed, executed_in, executed_over, AreInTime, IsInSpan, AreInSpan, KeepSpan, IsSetUp, AreNew, LawOfSpan}
+use Rattle.flat_model.specs.Nodes.{Name, Record, Node, IsSetUp, NodeStep, Says, name_of, same_name, record_named, handles, node_after, said_to, items_judged, items_read, answer_judged, node_answer, node_given, keep_every, keeping, ideal}
+use Rattle.account_laws.specs.Span.{Given, answers_to, if_executed, executed_in, executed_over, AreInTime, IsInSpan, AreInSpan, KeepSpan, AreNew, LawOfSpan}
 use Rattle.account_laws.proofs.Lists.{each_append, each_weaker, slice_get_within}
 use Rattle.account_laws.proofs.Items.{HandledBy, handled_by}
 use Rattle.account_laws.proofs.Window.{Spaced, spaced_more, window, window_none, oldest_latest, latest_more}

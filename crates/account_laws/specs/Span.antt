@@ -1,13 +1,13 @@
 -- The law of the span: where no recorded request comes again too late, a node that keeps the latest replies answers as
 -- one that keeps all, and executes no request twice.
 use Rattle.std.specs.Prelude.{ℕ, ◌+◌, ◌<◌, ◌≤◌, ◌≡◌, true, false, List, [], ◌∷◌, ◌++◌, length, map, Some}
-use Rattle.std.specs.List.{AllByRecursion as Each, list_any}
+use Rattle.std.specs.List.{list_any}
 use Rattle.cl_types.specs.Requests.{is_changing}
 use Rattle.cl_types.specs.declared.frame.How.TheVariants.{Executed}
 use Rattle.cl_types.specs.declared.limits.TheConstants.{SPAN}
 use Rattle.flat_model.specs.Frames.{Item}
 use Rattle.flat_model.specs.Handling.{latest}
-use Rattle.flat_model.specs.Nodes.{Name, Record, Node, Said, Gives, NodeStep, NodeAnswer, name_of, same_name, record_named, step_item, items_read, node_answer, node_given, keep_every, ideal}
+use Rattle.flat_model.specs.Nodes.{Name, Record, Node, IsSetUp, Said, Gives, NodeStep, NodeAnswer, name_of, same_name, record_named, step_item, items_read, node_answer, node_given, keep_every, ideal}
 use Rattle.account_laws.specs.Machines.{Machine, answers_over}
 
 -- what a node is given: bytes, each at a moment
@@ -64,12 +64,6 @@ abbrev pub KeepSpan : Node → List Given → Type 0
 KeepSpan n [] = Unit {0}
 KeepSpan n (g ∷ gs) =
     AreInSpan n g.0 (items_read g.1) × KeepSpan (node_given keep_every n g.0 g.1) gs
-
--- the node keeps at least one record, has no more than it keeps, and made none later than this
-pub record IsSetUp (n : Node) (last : ℕ) : Type 0 where
-  pub some : 1 ≤ n.retry
-  pub few : length n.records ≤ n.retry
-  pub past : Each (λ (r : Record). r.moment ≤ last) n.records
 
 -- ---- the law
 -- none of the names is among those so far, each of which counts from then on

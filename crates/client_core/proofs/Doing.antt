@@ -142,7 +142,7 @@ poll_done old new t answer out out' p is does = record {
 
 pub sound_later : (no : ClientNo) (pid issued sendings : ℕ) (calls : Holding) (f : Flights) (last now : ℕ) → IsSound (state_of no pid issued sendings calls f last) calls.held f → last ≤ now → IsSound (state_of no pid issued sendings calls f now) calls.held f
 sound_later c pid issued sendings calls f last now sound le = record {
-  valid = record { rising = sound.valid.rising; calls = sound.valid.calls; few = sound.valid.few; apart = sound.valid.apart; ids = sound.valid.ids; sendings = sound.valid.sendings };
+  valid = record { rising = sound.valid.rising; calls = sound.valid.calls; few = sound.valid.few; counted = sound.valid.counted; apart = sound.valid.apart; ids = sound.valid.ids; sendings = sound.valid.sendings };
   fits = sound.fits;
   flight = sound.flight;
   moment = let m : f.last ≤ last = sound.moment in omega arith;

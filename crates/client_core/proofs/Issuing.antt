@@ -182,6 +182,9 @@ module _ (no : ClientNo) (pid issued sendings : ℕ) (calls : Holding) (f : Flig
             let m : length new.calls ≡ length state.calls + 1 = length-append state.calls (call_standing (λ p. Unsent) (issued + 1, k) ∷ []) in
             let n : length state.calls ≡ length calls.held = length-map calls.held (call_in f.flown) in
             room _ _ _ _ m n few;
+        counted =
+            let m : length new.calls ≡ length state.calls + 1 = length-append state.calls (call_standing (λ p. Unsent) (issued + 1, k) ∷ []) in
+            so_many _ _ _ m sound.valid.counted;
         apart = subst AreApart (origs_are state f.flown sound.flight ∙ sym (origs_are new f.flown flown1)) sound.valid.apart;
         ids = subst (Each (IsId sendings)) (origs_are state f.flown sound.flight ∙ sym (origs_are new f.flown flown1)) sound.valid.ids;
         sendings =
@@ -193,6 +196,9 @@ module _ (no : ClientNo) (pid issued sendings : ℕ) (calls : Holding) (f : Flig
         where
           room : (a b c d : ℕ) → a ≡ b + 1 → b ≡ c → c + d < 256 → a + d ≤ 256
           room a b c d x y z = omega arith
+
+          so_many : (a b d : ℕ) → a ≡ b + 1 → b + d ≤ issued → a + d ≤ issued + 1
+          so_many a b d x y = omega arith
 
           budget : (a b c d e : ℕ) → a ≡ b + c → c ≡ 4 * d → d ≡ e → e ≤ 65 → sendings + b ≤ 260 * issued → sendings + a ≤ 260 * (issued + 1)
           budget a b c d e x y z u v = omega arith
@@ -263,14 +269,18 @@ fence_step_of c pid issued sendings h hs es x f last sound fence x_is = record {
       few =
           let a : length (es ++ record { number = h.number; answer = combine call.Fence []; call = call.Fence } ∷ []) ≡ length es + 1 = length-append es _ in
           let b : length new.calls ≡ length (map (call_in f.flown) hs) = ap (length {A = ClientCall}) (sym left_over) in
-          room _ _ _ _ a b sound.valid.few;
+          room _ _ _ _ _ a b sound.valid.few;
+      counted =
+          let a : length (es ++ record { number = h.number; answer = combine call.Fence []; call = call.Fence } ∷ []) ≡ length es + 1 = length-append es _ in
+          let b : length new.calls ≡ length (map (call_in f.flown) hs) = ap (length {A = ClientCall}) (sym left_over) in
+          room _ _ _ _ _ a b sound.valid.counted;
       apart = subst AreApart (origs_are state f.flown sound.flight ∙ sym (origs_are new f.flown flown1)) sound.valid.apart;
       ids = subst (Each (IsId sendings)) (origs_are state f.flown sound.flight ∙ sym (origs_are new f.flown flown1)) sound.valid.ids;
       sendings = subst (λ ps. sendings + sum_by left ps ≤ 260 * issued) (sym parts_are) sound.valid.sendings;
     }
       where
-        room : (a b c d : ℕ) → a ≡ b + 1 → c ≡ d → suc d + b ≤ 256 → c + a ≤ 256
-        room a b c d x y z = omega arith
+        room : (a b c d most : ℕ) → a ≡ b + 1 → c ≡ d → suc d + b ≤ most → c + a ≤ most
+        room a b c d most x y z = omega arith
 
 module _ (no : ClientNo) (pid issued sendings : ℕ) (f : Flights) (last : ℕ) (n : CallNo) (calls' : Holding) (es : List Finished) (ended_is : calls'.ended ≡ es ++ record { number = n.0; answer = combine call.Fence []; call = call.Fence } ∷ []) where
   pub first_ends : (held : List Held) (sound : IsSound (state_of no pid issued sendings (record { held = held; ended = es }) f last) held f) → fence_first_in held ≡ Some n → calls'.held ≡ drop 1 held →

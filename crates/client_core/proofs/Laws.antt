@@ -203,7 +203,12 @@ valid_left s p orig f fs v was now less = record {
       let parts = counted_ends (map (call_changed p f) s.calls) in
       let as_many : length (map (call_changed p f) s.calls) ≡ length s.calls = length-map s.calls (call_changed p f) in
       let ended : length (s.ended ++ filter_map finished (map (call_changed p f) s.calls)) ≡ length s.ended + length (filter_map finished (map (call_changed p f) s.calls)) = length-append s.ended (filter_map finished (map (call_changed p f) s.calls)) in
-      few_still _ _ _ _ _ _ parts as_many ended v.few;
+      few_still _ _ _ _ _ _ _ parts as_many ended v.few;
+  counted =
+      let parts = counted_ends (map (call_changed p f) s.calls) in
+      let as_many : length (map (call_changed p f) s.calls) ≡ length s.calls = length-map s.calls (call_changed p f) in
+      let ended : length (s.ended ++ filter_map finished (map (call_changed p f) s.calls)) ≡ length s.ended + length (filter_map finished (map (call_changed p f) s.calls)) = length-append s.ended (filter_map finished (map (call_changed p f) s.calls)) in
+      few_still _ _ _ _ _ _ _ parts as_many ended v.counted;
   apart = subst AreApart (sym (origs_are (after_part p f s) (without orig fs) now)) (apart_without orig fs (subst AreApart (origs_are s fs was) v.apart));
   ids = subst (Each (IsId s.sendings)) (sym (origs_are (after_part p f s) (without orig fs) now)) (each_without (IsId s.sendings) orig fs (subst (Each (IsId s.sendings)) (origs_are s fs was) v.ids));
   sendings =
@@ -211,8 +216,8 @@ valid_left s p orig f fs v was now less = record {
       still_within _ _ _ _ _ v.sendings less fewer;
 }
   where
-    few_still : (a b c d e m : ℕ) → a + b ≡ c → c ≡ d → e ≡ m + b → d + m ≤ 256 → a + e ≤ 256
-    few_still a b c d e m x y z u = omega arith
+    few_still : (a b c d e m most : ℕ) → a + b ≡ c → c ≡ d → e ≡ m + b → d + m ≤ most → a + e ≤ most
+    few_still a b c d e m most x y z u = omega arith
 
     still_within : (n x y z m : ℕ) → n + x ≤ m → y ≤ x → z ≤ y → n + z ≤ m
     still_within n x y z m a b c = omega arith
@@ -236,6 +241,7 @@ valid_out s t o fs' v now apart known less =
       rising = subst (AreRising 0 s.issued) (sym (numbers_same o.part (gone_out t o) s.calls)) v.rising;
       calls = held_same o.part (gone_out t o) (out_same t o) s.calls v.calls;
       few = subst (λ n. n + length s.ended ≤ 256) (sym (length-map s.calls (call_changed o.part (gone_out t o)))) v.few;
+      counted = subst (λ n. n + length s.ended ≤ s.issued) (sym (length-map s.calls (call_changed o.part (gone_out t o)))) v.counted;
       apart = subst AreApart (sym (origs_are new fs' now)) apart;
       ids = subst (Each (IsId (s.sendings + 1))) (sym (origs_are new fs' now)) known;
       sendings = within _ _ _ _ v.sendings less;

@@ -41,6 +41,8 @@ pub record IsValid (s : ClientState) : Type 0 where
   pub rising : AreRising 0 s.issued (map (λ k. k.number) s.calls)
   pub calls : Each IsHeld s.calls
   pub few : held s ≤ HELD_CALLS
+  -- each call that it holds was issued
+  pub counted : held s ≤ s.issued
   -- the id of a first sending names a part in flight
   pub apart : AreApart (origs s)
   pub ids : Each (λ id. (1 ≤ id) × (id ≤ s.sendings)) (origs s)

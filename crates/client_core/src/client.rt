@@ -132,14 +132,16 @@ impl Client {
 
     /// How many calls it has issued.
     pub fn issued(&self) -> u32
-        ensures { result ≡ self.now.issued }
+        ensures count { result ≡ self.now.issued }
+        ensures valid { IsValid self.now }
     {
         self.issued
     }
 
     /// The latest moment that it was given, in ticks.
     pub fn last(&self) -> u64
-        ensures { result ≡ self.now.last }
+        ensures moment { result ≡ self.now.last }
+        ensures valid { IsValid self.now }
     {
         self.last
     }

@@ -1,6 +1,7 @@
 -- The keeping node, which keeps the latest replies, and the ideal node, which keeps all: a flat state, and the replies
 -- that are recorded.
-use Rattle.std.specs.Prelude.{ℕ, ◌==◌, Bool, ◌&&◌, List, [], ◌∷◌, ◌++◌, Option, Some, None, find, option_map}
+use Rattle.std.specs.Prelude.{ℕ, ◌≤◌, ◌==◌, Bool, ◌&&◌, List, [], ◌∷◌, ◌++◌, length, Option, Some, None, find, option_map}
+use Rattle.std.specs.List.{AllByRecursion as Each}
 use Rattle.cl_types.specs.Requests.{is_changing}
 use Rattle.cl_types.specs.declared.numbers.ClientNo.{ClientNo}
 use Rattle.cl_types.specs.declared.call.Kind.{Kind}
@@ -35,6 +36,12 @@ pub record Node : Type 0 where
   pub records : List Record
   -- how many it may keep
   pub retry : ℕ
+
+-- the node may keep at least one record, has no more than it may keep, and made none later than this
+pub record IsSetUp (n : Node) (last : ℕ) : Type 0 where
+  pub some : 1 ≤ n.retry
+  pub few : length n.records ≤ n.retry
+  pub past : Each (λ (r : Record). r.moment ≤ last) n.records
 
 -- the node at its opening, with nothing recorded
 abbrev pub opening_node : NodeConfig → Node

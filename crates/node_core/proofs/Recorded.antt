@@ -9,7 +9,7 @@ use Rattle.cl_types.specs.declared.reply.Reply.{Reply}
 use Rattle.cl_types.specs.Times.{is_young}
 use Rattle.flat_model.specs.Handling.{Executes, if_young, Looks, Repeats, handling, item_outcome, on_oldest, latest, oldest_of}
 use Rattle.flat_model.specs.Frames.{Item, kind_of}
-use Rattle.flat_model.specs.Nodes.{Name, Record, name_of as name_in, record_named, same_name, handles}
+use Rattle.flat_model.specs.Nodes.{IsSetUp, Name, Record, name_of as name_in, record_named, same_name, handles}
 use Rattle.flat_model.specs.State.{FlatState}
 use Rattle.cl_types.specs.Requests.{is_changing}
 use Rattle.cl_types.specs.declared.call.Kind.{Kind}
@@ -141,6 +141,24 @@ handling_shown kept noted last item shows =
     ∙ recorded_moment (oldest_of noted.capacity noted.records) in
     λ i. handling (is_changing item.request) (recorded i) (shows.moment i) (oldest i)
 
+-- ---- set up
+-- what holds of the records that were noted holds of those of the node
+all_recorded : (last : ℕ) (rs : List Noted) → AreNotedBy last rs → AllByRecursion (λ (r : Record). r.moment ≤ last) (map record_of rs)
+all_recorded last [] all = tt
+all_recorded last (r ∷ rs) all = (all.0, all_recorded last rs all.1)
+
+-- a node whose records are sound is set up
+pub set_up : (kept : KeptNode) (flat : FlatState) (cache : Cached) (noted : Kept) (last : ℕ) → kept_node flat cache noted last ≡ kept
+    → IsSound noted last → IsSetUp kept.node kept.last
+set_up kept flat cache noted last view sound =
+    let few : length noted.records ≤ noted.capacity = sound.valid.few in
+    let same : length (map record_of noted.records) ≡ length noted.records = length-map noted.records record_of in
+    subst (λ (k : KeptNode). IsSetUp k.node k.last) view (record {
+      some = sound.some;
+      few = omega (arith, few, same);
+      past = all_recorded last noted.records sound.noted;
+    })
+
 -- ---- judged
 -- what is found under the item's name, where its kind was told
 pub looked : (noted : Kept) (item : Item) (kind : Kind) (found : Option SmallReply) → kind ≡ kind_of item.request
@@ -244,6 +262,7 @@ sound_noted noted next last r sound noting valid moment spelled =
     let now : r.moment ≤ last = omega arith in
     let records : with_noted r noted ≡ next = sym noting in
     record {
+      some = let first : 1 ≤ noted.capacity = sound.some in subst (λ (k : Kept). 1 ≤ k.capacity) records first;
       valid = valid;
       noted = subst (λ (k : Kept). AreNotedBy last k.records) records
           (all_latest (λ s. s.moment ≤ last) noted.capacity noted.records r sound.noted now);

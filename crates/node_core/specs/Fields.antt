@@ -1,5 +1,5 @@
 -- How the fields of a `Keeper` stand for its node. No public clause cites this module.
-use Rattle.std.specs.Prelude.{ℕ, ◌+◌, ◌≡◌, List, ◌∷◌, map, option_map}
+use Rattle.std.specs.Prelude.{ℕ, ◌+◌, ◌≡◌, ◌≤◌, List, ◌∷◌, map, option_map}
 use Rattle.std.specs.List.{AllByRecursion}
 use Rattle.cl_types.specs.declared.call.Kind.{Kind}
 use Rattle.cl_types.specs.declared.reply.Reply.{Reply}
@@ -45,6 +45,7 @@ IsSpelled kind small =
 
 -- what holds of the records at every moment
 pub record IsSound (kept : Kept) (last : ℕ) : Type 0 where
+  pub some : 1 ≤ kept.capacity
   pub valid : IsValid kept
   pub noted : AreNotedBy last kept.records
   pub spelled : AllByRecursion (λ r. IsSpelled r.kind r.reply) kept.records

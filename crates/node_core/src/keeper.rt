@@ -5,7 +5,7 @@ ghost use Rattle.cl_types.specs.Requests.{request_of};
 ghost use Rattle.cl_types.specs.declared.limits.TheConstants.{FRAME_ROOM};
 ghost use Rattle.flat_model.specs.Frames.{IsHead, head_in, kind_of, request_in};
 ghost use Rattle.flat_model.specs.Handling.{Executes, Looks, latest};
-ghost use Rattle.flat_model.specs.Nodes.{handles, keeping, node_answer, node_given};
+ghost use Rattle.flat_model.specs.Nodes.{IsSetUp, handles, keeping, node_answer, node_given};
 ghost use Rattle.flat_model.specs.Ranges.{is_in_range};
 ghost use Rattle.flat_model.specs.Step.{outcome};
 ghost use Rattle.node_core.specs.Fields.{handling_at, handling_of, reply_kept, IsSpelled, IsSpelledWhereRepeated};
@@ -90,7 +90,8 @@ impl<M: Machine + Drop> Keeper<M> {
 
     /// The latest moment that it was given, in ticks.
     pub fn last(&self) -> u64
-        ensures { result ≡ self.now.last }
+        ensures moment { result ≡ self.now.last }
+        ensures set_up { IsSetUp self.now.node self.now.last }
     {
         self.last
     }

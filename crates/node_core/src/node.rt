@@ -8,7 +8,7 @@ ghost use Rattle.data_path.specs.Access.{IsPiece};
 ghost use Rattle.data_path.specs.Store.{IsWhole, flat_of, memory_of, no_entries};
 ghost use Rattle.flat_model.specs.Frames.{head_in, request_in};
 ghost use Rattle.flat_model.specs.Handling.{latest};
-ghost use Rattle.flat_model.specs.Nodes.{node_answer, node_given, opening_node};
+ghost use Rattle.flat_model.specs.Nodes.{IsSetUp, node_answer, node_given, opening_node};
 ghost use Rattle.flat_model.specs.Opening.{open_fault};
 ghost use Rattle.flat_model.specs.Pages.{offset_of, page_of};
 ghost use Rattle.flat_model.specs.State.{bytes_of, page_at, used};
@@ -55,6 +55,7 @@ impl Node {
           last = 0;
           cache = no_entries;
         }) }
+        ensures set_up { IfOk result (λ node. IsSetUp node.node node.last) }
         ensures fault { MatchOption (open_fault config.now)
             (IfErr result (λ fault. fault ≡ OpenFault.NoMemory)) (λ fault. result ≡ Err fault) }
     {
@@ -96,7 +97,8 @@ impl Node {
 
     /// The latest moment that the node was given, in ticks.
     pub fn last(&self) -> u64
-        ensures { result ≡ self.now.last }
+        ensures moment { result ≡ self.now.last }
+        ensures set_up { IsSetUp self.now.node self.now.last }
     {
         self.keeper.last()
     }
