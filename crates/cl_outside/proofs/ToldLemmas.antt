@@ -1,10 +1,25 @@
--- What was added at the end of a list that may be told, piece by piece.
-use Rattle.std.proofs.Common.{◌≡◌, ℕ, ◌+◌, List, ◌++◌, take, drop, sym, subst, ◌∙◌, ap, append_assoc, take-add}
+-- What was taken off the front of a list that may be told, or added at its end, piece by piece.
+use Rattle.std.proofs.Common.{◌≡◌, ℕ, ◌+◌, ◌≤◌, List, ◌++◌, length, take, drop, sym, subst, ◌∙◌, ap, append_assoc, arith, length-append, take-add}
 use Rattle.std.specs.Option.{option_map}
 use Rattle.std.specs.declared.option.Option.{Option}
 use Rattle.std.specs.declared.option.Option.TheVariants.{Some, None}
-use Rattle.cl_outside.specs.Told.{Added}
+use Rattle.cl_outside.specs.Loops.{TookUpTo}
+use Rattle.cl_outside.specs.Told.{Added, Took}
 
+-- ---- taken off the front
+-- what was taken, and then more, is one piece
+pub took_twice : {A : Type 0} (xs ys : List A) (before mid after : Option (List A)) → Took xs before mid → Took ys mid after → Took (xs ++ ys) before after
+took_twice {A} xs ys before mid None first second = first ∙ ap (option_map (λ (rest : List A). xs ++ rest)) second
+took_twice {A} xs ys before mid (Some left) first second =
+    first ∙ ap (option_map (λ (rest : List A). xs ++ rest)) second ∙ ap Some (sym (append_assoc xs ys left))
+
+-- and at most so many are
+pub took_more : (most more : ℕ) (bytes : List ℕ) (before mid after : Option (List ℕ)) → Took bytes before mid → length bytes + more ≤ most → TookUpTo more mid after → TookUpTo most before after
+took_more most more bytes before mid after took few (piece, short, off) =
+    let long : length (bytes ++ piece) ≡ length bytes + length piece = length-append bytes piece in
+    (bytes ++ piece, omega (arith, few, short, long), took_twice bytes piece before mid after took off)
+
+-- ---- added at the end
 -- two additions are one
 pub added_twice : {A : Type 0} (xs ys : List A) (before mid after : Option (List A))
     → Added xs before mid → Added ys mid after → Added (xs ++ ys) before after

@@ -36,6 +36,10 @@ CountsWrites before now (Err stop) = LastFailed before now
 abbrev pub TookCount : ℕ → Option (List ℕ) → Option (List ℕ) → Type 0
 TookCount count before after = (bytes : List ℕ) × (length bytes ≡ count) × Took bytes before after
 
+-- at most so many were taken off the front
+abbrev pub TookUpTo : ℕ → Option (List ℕ) → Option (List ℕ) → Type 0
+TookUpTo most before after = (bytes : List ℕ) × (length bytes ≤ most) × Took bytes before after
+
 -- with the bytes and what is left before and after: whether a read found more
 abbrev pub GotPiece : Bool → List ℕ → List ℕ → Option (List ℕ) → Option (List ℕ) → Type 0
 -- a piece of at least one byte joined the bytes, which are at most one too many

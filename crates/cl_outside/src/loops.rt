@@ -1,8 +1,8 @@
 //! Reading an input to its end, and writing all bytes.
 
-ghost use Rattle.std.specs.Prelude.{◌≡◌, ◌<◌, ◌≤◌, ◌+◌, ◌++◌, [], length, IfOk, OnOk, IfErr, OnErr, IfSome, IsErrOf};
+ghost use Rattle.std.specs.Prelude.{◌≡◌, ◌<◌, ◌≤◌, ◌+◌, ◌-◌, ◌++◌, [], length, IfOk, OnOk, IfErr, OnErr, IfSome, IsErrOf};
 ghost use Rattle.cl_outside.specs.Told.{Added};
-ghost use Rattle.cl_outside.specs.Loops.{CountsReads, CountsWrites, GotPiece, IsPieceStop, IsReadStop, TookCount, WroteFront};
+ghost use Rattle.cl_outside.specs.Loops.{CountsReads, CountsWrites, GotPiece, IsPieceStop, IsReadStop, TookCount, TookUpTo, WroteFront};
 
 use crate::{Read, Sink, Source, Wrote};
 use std::alloc::{AllocError, Global};
@@ -43,6 +43,9 @@ fn read_piece<S: Source>(source: &mut S, bytes: &mut Vec<u8>) -> Result<bool, St
     ensures got { IfOk result (λ more.
         GotPiece more bytes.old.items bytes.new.items (S.left source.old) (S.left source.new)) }
     ensures stop { IfErr result IsPieceStop }
+    ensures taken { OnErr result (TookUpTo (INPUT_LIMIT + 1 - length bytes.old.items)
+        (S.left source.old) (S.left source.new)) }
+    ensures kept { IsErrOf result Stop.ReadFault → S.left source.new ≡ S.left source.old }
     ensures counted { CountsReads (S.faults source.old) (S.faults source.new) result }
 {
     let mut piece = [0u8; PIECE];
@@ -65,6 +68,9 @@ pub fn read_input<S: Source>(alloc: Global, source: &mut S) -> Result<Vec<u8>, S
     ensures short { IfOk result (λ bytes. length bytes.items ≤ INPUT_LIMIT) }
     ensures counted { CountsReads (S.faults source.old) (S.faults source.new) result }
     ensures stop { IfErr result IsReadStop }
+    ensures taken { TookUpTo (INPUT_LIMIT + 1) (S.left source.old) (S.left source.new) }
+    ensures within { IsErrOf result Stop.ReadFault
+        → TookUpTo INPUT_LIMIT (S.left source.old) (S.left source.new) }
     ensures long { IsErrOf result Stop.TooLong
         → IfSome (S.left source.old) (λ left. INPUT_LIMIT < length left) }
     ensures stopped { IsErrOf result Stop.TooLong

@@ -2,7 +2,7 @@
 use Rattle.std.specs.Prelude.{◌≡◌, ◌⊎◌, ℕ, ◌+◌, Bool, true, false, List, [], length, IfSome, IsTrue}
 use Rattle.std.specs.declared.option.Option.{Option}
 use Rattle.cl_outside.specs.Counts.{LastFailed, NoneFailed}
-use Rattle.cl_outside.specs.Loops.{WroteFront}
+use Rattle.cl_outside.specs.Loops.{TookUpTo, WroteFront}
 use Rattle.cl_outside.specs.Told.{Added, Took}
 use Rattle.cl_outside.specs.declared.faults.Faults.{Faults}
 use Rattle.cl_outside.specs.declared.loops.TheConstants.{INPUT_LIMIT}
@@ -59,18 +59,28 @@ abbrev pub Wants : List Text → Option (List ℕ) → Option (List ℕ) → Ver
 Wants words before after v = WantsBy (is_built_command (command_in words)) before after v
 
 -- ---- the end
+-- what was taken off the source, by whether the words are a command that is built: nothing, or at most so many bytes
+abbrev pub TakesBy : Bool → ℕ → Option (List ℕ) → Option (List ℕ) → Type 0
+TakesBy false most before after = after ≡ before
+TakesBy true most before after = TookUpTo most before after
+
+-- the same, for a command line
+abbrev pub Takes : List Text → ℕ → Option (List ℕ) → Option (List ℕ) → Type 0
+Takes words most before after = TakesBy (is_built_command (command_in words)) most before after
+
 -- nothing was written, or a front of what was to be written
 abbrev pub WroteSome : List Text → Outside → Outside → Type 0
 WroteSome words before after =
-    (after.written ≡ before.written)
+    ((after.written ≡ before.written) × Takes words (INPUT_LIMIT + 1) before.left after.left)
     ⊎ ((v : Verdict) × Wants words before.left after.left v × WroteFront v.text before.written after.written)
 
 -- with which status the program ends
 abbrev pub Ends : List Text → Outside → Outside → Status → Type 0
--- the words are a command, of all reads the last alone failed, and nothing was written
+-- the words are a command, of all reads the last alone failed, when no more was taken than an input may have, and nothing
+-- was written
 Ends words before after status.ReadFault =
     IsTrue (is_built_command (command_in words)) × LastFailed before.read_faults after.read_faults × (after.written ≡ before.written)
-    × NoneFailed before.write_faults after.write_faults
+    × NoneFailed before.write_faults after.write_faults × TookUpTo INPUT_LIMIT before.left after.left
 -- of all writes the last alone failed, no read did, and a front of what was to be written was
 Ends words before after status.WriteFault =
     LastFailed before.write_faults after.write_faults × NoneFailed before.read_faults after.read_faults

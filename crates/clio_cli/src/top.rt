@@ -1,9 +1,10 @@
 //! The top call.
 
-ghost use Rattle.std.specs.Prelude.{◌≡◌, IfOk, IsErrOf, IsTrue, false};
+ghost use Rattle.std.specs.Prelude.{◌≡◌, ◌+◌, IfOk, IsErrOf, IsTrue, false};
+ghost use Rattle.cl_outside.specs.Loops.{TookUpTo};
 ghost use Rattle.flat_model.specs.Commands.{command_in};
 ghost use Rattle.clio_cli.specs.Headline.{EndsInHeadline, LeavesNothing};
-ghost use Rattle.clio_cli.specs.Run.{Complete, Ends, EndsWith, Exactly, ExactlyOf, FaultsEndTheRun, outside};
+ghost use Rattle.clio_cli.specs.Run.{Complete, Ends, EndsWith, Exactly, ExactlyOf, FaultsEndTheRun, Takes, outside};
 ghost use Rattle.clio_cli.specs.Verdict.{HasBadNode, IsRefused, IsTooLong};
 ghost use Rattle.clio_cli.specs.Wanted.{Asks, AsksOf, CountsHalt, Keeps};
 ghost use Rattle.clio_cli.specs.Words.{is_built_command};
@@ -41,6 +42,9 @@ impl From<NoMemory> for Halt {
 fn asked<S: Source>(alloc: Global, source: &mut S) -> Result<Wanted, Halt>
     ensures asked { IfOk result (AsksOf (S.left source.old) (S.left source.new)) }
     ensures counted { CountsHalt (S.faults source.old) (S.faults source.new) result }
+    ensures taken { TookUpTo (INPUT_LIMIT + 1) (S.left source.old) (S.left source.new) }
+    ensures within { IsErrOf result Halt.ReadFault
+        → TookUpTo INPUT_LIMIT (S.left source.old) (S.left source.new) }
 {
     match read_input(alloc, source) {
         Ok(bytes) => Ok(judge(alloc, &bytes)?),
@@ -57,6 +61,9 @@ fn wanted<S: Source>(alloc: Global, words: &Words, source: &mut S) -> Result<Wan
     ensures counted { CountsHalt (S.faults source.old) (S.faults source.new) result }
     ensures fault { IsErrOf result Halt.ReadFault
         → IsTrue (is_built_command (command_in words.now)) }
+    ensures taken { Takes words.now (INPUT_LIMIT + 1) (S.left source.old) (S.left source.new) }
+    ensures within { IsErrOf result Halt.ReadFault
+        → TookUpTo INPUT_LIMIT (S.left source.old) (S.left source.new) }
 {
     if !words.are_built() {
         return Ok(Wanted::Told(output_of(alloc, b"bad words\n", Status::BadWords)?));
