@@ -181,7 +181,7 @@ after_none s w held before served first is = record {
   place = refl;
   late = omega arith;
   rising = subst (λ (x : Running). IsRisingFrom (x.line + 1) s.events) (sym first) served.good.rising;
-  stands = subst (StandsFor s.config []) (sym first) (stands_for_none s.config);
+  stands = subst (StandsFor s.config []) (sym first) (stands_for_none s.config served.keeps);
   gathered = record { gone = []; split = append-nil s.header ∙ sym is; written = added_none before };
 }
 

@@ -139,8 +139,9 @@ begun config n apart is = λ i. record {
 }
 
 -- it stands for no event
-pub stands_for_none : (config : Config) → StandsFor config [] (opened config)
-stands_for_none config = record {
+pub stands_for_none : (config : Config) → 1 ≤ config.node.retry → StandsFor config [] (opened config)
+stands_for_none config keeps = record {
+  keeps = keeps;
   stands = record { moment = refl; node = node_opens; clients = refl; frames = refl; handed_out = refl; notes = tt; history = refl };
   summary = refl;
   line = refl;

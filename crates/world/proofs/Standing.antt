@@ -48,6 +48,7 @@ module _ (config : Config) (events : List (ℕ × Event)) (l : ℕ) (e : Event) 
   pub stands_next : (w v : Running) → StandsFor config events w → StandsOn config events l e (step w.world l e)
       → v.world ≡ (step w.world l e).world → v.summary ≡ summed_on (step w.world l e) w.summary → v.line ≡ l → v.spent ≡ false → StandsFor config (events ++ (l, e) ∷ []) v
   stands_next w v stands on world summary line unspent = record {
+    keeps = stands.keeps;
     stands = subst (IsReadOff config (account_of_latest config (events ++ (l, e) ∷ []))) (sym world) on.stands;
     summary = summary ∙ summary_on (step w.world l e) w.summary on stands.summary;
     line = line ∙ sym (last_of events (l, e));
@@ -57,12 +58,12 @@ module _ (config : Config) (events : List (ℕ × Event)) (l : ℕ) (e : Event) 
   -- so it is with an event that was told
   pub stands_on : {E : Type 0} (w v : Running) (r : Result EventLine E) → l < 2 ^ 29 → IfOk r (λ told. stepped told v.world ≡ step w.world l e)
       → IfOk r (λ told. v.summary ≡ summed_on (stepped told v.world) w.summary) → v.line ≡ l → v.spent ≡ false
-      → 1 ≤ config.node.retry → IsGood config (events ++ (l, e) ∷ []) → StandsFor config events w
+      → IsGood config (events ++ (l, e) ∷ []) → StandsFor config events w
       → IfOk r (λ told. TellsLine config events l e told × StandsFor config (events ++ (l, e) ∷ []) v)
-  stands_on w v r early is summary line unspent retry good stands =
+  stands_on w v r early is summary line unspent good stands =
       let count : 1 + length events ≤ l = few_events 1 events l e good.rising in
       let few : length events + 1 < 2 ^ 64 = omega (arith, count, early) in
-      let on : StandsOn config events l e (step w.world l e) = worlds_follow config events l e w.world retry good few stands.stands in
+      let on : StandsOn config events l e (step w.world l e) = worlds_follow config events l e w.world stands.keeps good few stands.stands in
       if_ok_two _ _ _ r
       (λ told same counts. (
         record { texts = on.told ∙ ap (λ (s : Stepped). s.did ∷ []) (sym same); ended = on.ended ∙ ap (λ (s : Stepped). s.ended) (sym same) },

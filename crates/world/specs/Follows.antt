@@ -87,9 +87,10 @@ last_line [] = 0
 last_line (e ∷ []) = e.0
 last_line (e ∷ f ∷ events) = last_line (f ∷ events)
 
--- the world stands for these events: it is read off their account, its counts are the account's, its line is the last of
--- theirs, and it isn't spent
+-- the world stands for these events: its node may keep a record, it is read off their account, its counts are the
+-- account's, its line is the last of theirs, and it isn't spent
 pub record StandsFor (config : Config) (events : List (ℕ × Event)) (w : Running) : Type 0 where
+  pub keeps : 1 ≤ config.node.retry
   pub stands : IsReadOff config (account_of_latest config events) w.world
   pub summary : w.summary ≡ summary_of (account_of_latest config events)
   pub line : w.line ≡ last_line events

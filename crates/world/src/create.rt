@@ -1,6 +1,6 @@
 //! The whole before the first event.
 
-ghost use Rattle.std.specs.Prelude.{◌≡◌, ◌++◌, [], ◌∷◌, None, Err, IfErr, IfOk, MatchOption, OnOk, map, nat_eq};
+ghost use Rattle.std.specs.Prelude.{◌≡◌, ◌≤◌, ◌++◌, [], ◌∷◌, None, Err, IfErr, IfOk, MatchOption, OnOk, map, nat_eq};
 ghost use Rattle.flat_model.specs.Client.{new_client};
 ghost use Rattle.flat_model.specs.Opening.{open_fault};
 ghost use Rattle.flat_model.specs.Apart.{AreApart};
@@ -28,6 +28,7 @@ impl Whole {
         ensures opened { IfOk result (λ whole. world_of whole ≡ new_world config.now) }
         ensures sound { IfOk result (AreSound 0) }
         ensures keyed { IfOk result (λ whole. AreKeyed whole.clients) }
+        ensures keeps { OnOk result (1 ≤ config.now.node.retry) }
         ensures fault { MatchOption (open_fault config.now.node)
             (IfErr result (λ fault. fault ≡ OpenFault.NoMemory)) (λ fault. result ≡ Err fault) }
     {

@@ -85,7 +85,6 @@ impl World {
         ensures step { IfOk result (λ told. stepped told self.new.world
             ≡ step self.old.world line event.now) }
         ensures stands { (config : Configuration) (events : List (ℕ × Happening))
-            → 1 ≤ config.node.retry
             → IsGood config (events ++ (line, event.now) ∷ [])
             → StandsFor config events self.old
             → IfOk result (λ told. TellsLine config events line event.now told

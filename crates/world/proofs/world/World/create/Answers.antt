@@ -11,7 +11,7 @@ use Rattle.world.proofs.world.World.create.Goals as goal
 pub returns-clause-stands : goal.returns-clause-stands
 returns-clause-stands c =
     let same = ap (λ (w : World). record { world = w; summary = nothing_counted; line = 0; spent = false }) c.in_ok-whole.ensures.opened in
-    subst (StandsFor c.args.config.now []) (sym same) (stands_for_none c.args.config.now)
+    subst (StandsFor c.args.config.now []) (sym same) (stands_for_none c.args.config.now c.in_ok-whole.ensures.keeps)
 
 pub returns-clause-fault : goal.returns-clause-fault
 returns-clause-fault c =
