@@ -5,7 +5,7 @@ use Rattle.std.proofs.lemmas.List.{length-append, length-take-le, length-drop, t
 use Rattle.std.proofs.lemmas.Slice.{drop-append-drop}
 use Rattle.cl_types.specs.Bytes.{with_bytes}
 use Rattle.cl_types.specs.declared.reply.Reply.TheVariants as reply
-use Rattle.flat_model.specs.Cut.{Ending, Replied}
+use Rattle.client_model.specs.Cut.{Ending, Replied}
 use Rattle.call_cut.specs.declared.outcome.Outcome.{Outcome}
 use Rattle.call_cut.specs.declared.outcome.Outcome.TheVariants as outcome
 use Rattle.call_cut.specs.Fills.{before}

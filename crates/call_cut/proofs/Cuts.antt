@@ -5,8 +5,8 @@ use Rattle.cl_types.specs.declared.call.Call.{Call}
 use Rattle.cl_types.specs.declared.call.Call.TheVariants as call
 use Rattle.cl_types.specs.declared.reply.Reply.{Reply}
 use Rattle.cl_types.specs.declared.request.Request.TheVariants as request
-use Rattle.flat_model.specs.Client.{emptied}
-use Rattle.flat_model.specs.Cut.{cut, pieces}
+use Rattle.client_model.specs.Client.{emptied}
+use Rattle.client_model.specs.Cut.{cut, pieces}
 use Rattle.call_cut.specs.Taking.{TakesFor}
 
 -- a call with a buffer of zeros has the same parts

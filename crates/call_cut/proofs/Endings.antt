@@ -16,8 +16,8 @@ use Rattle.cl_types.specs.declared.reply.Refusal.{Refusal}
 use Rattle.cl_types.specs.declared.reply.Reply.TheVariants as reply
 use Rattle.cl_types.specs.declared.reply.Value.{Value}
 use Rattle.cl_types.specs.declared.reply.Value.TheVariants as value
-use Rattle.flat_model.specs.Client.{buffer_of, emptied, every}
-use Rattle.flat_model.specs.Cut.{Ending, Replied, GivenUp, combine, cut, done_value, filled, first_answer, first_given_up, first_refusal, handed_back, joined, only_value, pieces}
+use Rattle.client_model.specs.Client.{buffer_of, emptied, every}
+use Rattle.client_model.specs.Cut.{Ending, Replied, GivenUp, combine, cut, done_value, filled, first_answer, first_given_up, first_refusal, handed_back, joined, only_value, pieces}
 use Rattle.call_cut.specs.declared.outcome.Outcome.{Outcome}
 use Rattle.call_cut.specs.declared.outcome.Outcome.TheVariants as outcome
 use Rattle.call_cut.specs.Fills.{fills}

@@ -4,7 +4,7 @@ use Rattle.std.proofs.lemmas.Bool.{cases_lt, ne_eqb}
 use Rattle.std.proofs.lemmas.List.{length-drop, drop-drop, drop_more}
 use Rattle.std.proofs.lemmas.Option.{slice_get-get_or}
 use Rattle.call_cut.specs.Fills.{before}
-use Rattle.flat_model.specs.Cut.{piece_len, pieces_within, pieces}
+use Rattle.client_model.specs.Cut.{piece_len, pieces_within, pieces}
 
 -- a piece has a byte where one is left, and no more than are left
 pub piece_some : (at left : ℕ) → 0 < left → (0 < piece_len at left) × (piece_len at left ≤ left)

@@ -15,10 +15,10 @@ use Rattle.cl_types.specs.declared.reply.Reply.{Reply}
 use Rattle.cl_types.specs.declared.reply.Reply.TheVariants as reply
 use Rattle.cl_types.specs.declared.frame.IssueFault.{IssueFault}
 use Rattle.cl_types.specs.declared.frame.IssueFault.TheVariants as fault
-use Rattle.flat_model.specs.Client.{emptied}
-use Rattle.flat_model.specs.Cut.{Replied, GivenUp, cut, pieces}
-use Rattle.flat_model.specs.Faults.{first_fault}
-use Rattle.flat_model.specs.Issue.{call_faults, bytes_faults, as_far_as_told}
+use Rattle.client_model.specs.Client.{emptied}
+use Rattle.client_model.specs.Cut.{Replied, GivenUp, cut, pieces}
+use Rattle.frame_model.specs.Faults.{first_fault}
+use Rattle.client_model.specs.Issue.{call_faults, bytes_faults, as_far_as_told}
 use Rattle.call_cut.specs.declared.outcome.Outcome.{Outcome}
 use Rattle.call_cut.specs.declared.outcome.Outcome.TheVariants as outcome
 use Rattle.call_cut.specs.Fills.{fills, before}

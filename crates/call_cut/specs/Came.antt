@@ -2,8 +2,8 @@
 use Rattle.std.specs.Prelude.{ℕ, List, [], ◌∷◌, take, drop, Option, Some, None}
 use Rattle.cl_types.specs.declared.call.Call.{Call}
 use Rattle.cl_types.specs.declared.reply.Reply.TheVariants as reply
-use Rattle.flat_model.specs.Client.{buffer_of}
-use Rattle.flat_model.specs.Cut.{Ending, Replied, GivenUp}
+use Rattle.client_model.specs.Client.{buffer_of}
+use Rattle.client_model.specs.Cut.{Ending, Replied, GivenUp}
 use Rattle.call_cut.specs.declared.outcome.Outcome.{Outcome}
 use Rattle.call_cut.specs.declared.outcome.Outcome.TheVariants as outcome
 use Rattle.call_cut.specs.Fills.{fills}

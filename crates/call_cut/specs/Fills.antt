@@ -2,7 +2,7 @@
 use Rattle.std.specs.Prelude.{ℕ, zero, suc, ◌+◌, List, [], ◌∷◌, length, map}
 use Rattle.cl_types.specs.declared.call.Call.{Call}
 use Rattle.cl_types.specs.declared.call.Call.TheVariants as call
-use Rattle.flat_model.specs.Cut.{pieces}
+use Rattle.client_model.specs.Cut.{pieces}
 
 -- how many bytes of the call's buffer each part may fill
 abbrev pub fills : Call → List ℕ

@@ -3,9 +3,9 @@
 ghost use Rattle.std.specs.Prelude.{◌≡◌, ◌+◌, ◌-◌, ◌≤◌, ◌++◌, take, length, None};
 ghost use Rattle.cl_types.specs.Bytes.{with_bytes, zeros};
 ghost use Rattle.cl_types.specs.declared.reply.Reply.TheVariants.{Got};
-ghost use Rattle.flat_model.specs.Client.{emptied};
-ghost use Rattle.flat_model.specs.Faults.{first_fault};
-ghost use Rattle.flat_model.specs.Issue.{call_faults};
+ghost use Rattle.client_model.specs.Client.{emptied};
+ghost use Rattle.frame_model.specs.Faults.{first_fault};
+ghost use Rattle.client_model.specs.Issue.{call_faults};
 ghost use Rattle.call_cut.specs.Taking.{TakesFor, call_with};
 
 use crate::pieces::piece_at;

@@ -4,10 +4,10 @@ ghost use Rattle.std.specs.Prelude.{◌≡◌, ◌<◌, ◌≤◌, List, length,
 ghost use Rattle.std.specs.List.{list_any};
 ghost use Rattle.cl_types.specs.Requests.{reply_of};
 ghost use Rattle.cl_types.specs.declared.call.Call.{Call};
-ghost use Rattle.flat_model.specs.Client.{emptied, every};
-ghost use Rattle.flat_model.specs.Cut.{Ending, Replied, GivenUp, combine, cut, handed_back};
-ghost use Rattle.flat_model.specs.Faults.{first_fault};
-ghost use Rattle.flat_model.specs.Issue.{call_faults};
+ghost use Rattle.client_model.specs.Client.{emptied, every};
+ghost use Rattle.client_model.specs.Cut.{Ending, Replied, GivenUp, combine, cut, handed_back};
+ghost use Rattle.frame_model.specs.Faults.{first_fault};
+ghost use Rattle.client_model.specs.Issue.{call_faults};
 ghost use Rattle.call_cut.specs.Came.{came};
 ghost use Rattle.call_cut.specs.Taking.{Gathers, TakesFor, outcome_of, call_with};
 ghost use Rattle.call_cut.specs.Ends.{is_waiting, given_up_among, refusal_among, failure_among, only_value_of, got_of, value_of, with_rest_cleared};

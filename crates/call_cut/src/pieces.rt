@@ -2,9 +2,9 @@
 //! page, every 1,024 bytes.
 
 ghost use Rattle.std.specs.Prelude.{◌≡◌, ◌+◌, ◌<◌, ◌≤◌, length, Some, None, slice_get};
-ghost use Rattle.flat_model.specs.Cut.{cut, pieces, piece_len as piece_len_of};
-ghost use Rattle.flat_model.specs.Faults.{first_fault};
-ghost use Rattle.flat_model.specs.Issue.{call_faults};
+ghost use Rattle.client_model.specs.Cut.{cut, pieces, piece_len as piece_len_of};
+ghost use Rattle.frame_model.specs.Faults.{first_fault};
+ghost use Rattle.client_model.specs.Issue.{call_faults};
 ghost use Rattle.cl_types.specs.Requests.{request_of};
 
 use cl_types::call::Call;

@@ -2,8 +2,8 @@
 
 ghost use Rattle.std.specs.Prelude.{◌≡◌, [], ◌∷◌, length, IfOk, None};
 ghost use Rattle.cl_types.specs.declared.call.Call.TheVariants as call;
-ghost use Rattle.flat_model.specs.Faults.{first_fault};
-ghost use Rattle.flat_model.specs.Issue.{call_faults};
+ghost use Rattle.frame_model.specs.Faults.{first_fault};
+ghost use Rattle.client_model.specs.Issue.{call_faults};
 
 use crate::{Gather, part, parts};
 use cl_types::call::{Call, Perm};

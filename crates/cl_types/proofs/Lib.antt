@@ -1,2 +1,3 @@
 mod HomeLemmas
 pub mod PlaceLemmas
+pub mod RangeLemmas

@@ -8,3 +8,6 @@ pub mod Spaces
 pub mod Kinds
 pub mod Parts
 pub mod Times
+pub mod Pages
+pub mod Ranges
+pub mod Written

@@ -14,6 +14,7 @@ pub mod items;
 pub mod limits;
 pub mod line;
 pub mod numbers;
+pub mod open_fault;
 pub mod page;
 pub mod reply;
 pub mod request;

@@ -10,11 +10,11 @@ use Rattle.cl_types.specs.declared.frame.IssueFault.TheVariants as fault
 use Rattle.cl_types.specs.declared.call.Call.{Call}
 use Rattle.cl_types.specs.declared.call.Call.TheVariants as call
 use Rattle.cl_types.specs.declared.request.Request.TheVariants as request
-use Rattle.flat_model.specs.Cut.{cut, pieces}
-use Rattle.flat_model.specs.Faults.{first_fault}
-use Rattle.flat_model.specs.Issue.{call_faults, bytes_faults, as_far_as_told}
-use Rattle.flat_model.specs.Order.{footprint, is_fence, pages_over}
-use Rattle.flat_model.specs.Client.{emptied}
+use Rattle.client_model.specs.Cut.{cut, pieces}
+use Rattle.frame_model.specs.Faults.{first_fault}
+use Rattle.client_model.specs.Issue.{call_faults, bytes_faults, as_far_as_told}
+use Rattle.client_model.specs.Order.{footprint, is_fence, pages_over}
+use Rattle.client_model.specs.Client.{emptied}
 
 -- ---- numbers
 pub eqb_same : (n : ℕ) → (n == n) ≡ true

@@ -3,7 +3,7 @@ use Rattle.std.proofs.Common.{◌≡◌, ℕ, zero, suc, ◌+◌, ◌<◌, ◌�
 use Rattle.std.specs.Prelude.{◌==◌, ◌||◌, ◌&&◌, find, slice_get, option_map, is_some}
 use Rattle.std.specs.List.{AllByRecursion as Each, All, list_any}
 use Rattle.std.proofs.lemmas.List.Elements.{All-from_recursion}
-use Rattle.flat_model.specs.Order.{Footprint, may_go, ready_in}
+use Rattle.client_model.specs.Order.{Footprint, may_go, ready_in}
 use Rattle.std.proofs.lemmas.Bool.Decides.{nat_tests}
 use Rattle.client_core.specs.Valid.{AreRising}
 use Rattle.client_core.specs.Held.{Held, held_at, print_of, next_part, may_send, part_to_send}

@@ -6,12 +6,12 @@ use Rattle.std.proofs.lemmas.Bool.Decides.{nat_tests}
 use Rattle.cl_types.specs.declared.request.Request.{Request}
 use Rattle.cl_types.specs.declared.numbers.CallNo.{CallNo}
 use Rattle.cl_types.specs.declared.reply.Part.{Part}
-use Rattle.flat_model.specs.Cut.{cut, Ending}
-use Rattle.flat_model.specs.Order.{Footprint, footprint, is_fence, may_go, ready_in}
+use Rattle.client_model.specs.Cut.{cut, Ending}
+use Rattle.client_model.specs.Order.{Footprint, footprint, is_fence, may_go, ready_in}
 use Rattle.cl_types.specs.Parts.{same_part}
-use Rattle.flat_model.specs.Client.{ClientCall, ClientPart, ClientState, EndsFence, Polled, Sending, Standing, Unsent, InFlight, Over, fence_first, flight, flights, is_unsent, named, parts_of, prints, sendable, standing_so}
+use Rattle.client_model.specs.Client.{ClientCall, ClientPart, ClientState, EndsFence, Polled, Sending, Standing, Unsent, InFlight, Over, fence_first, flight, flights, is_unsent, named, parts_of, prints, sendable, standing_so}
 use Rattle.client_retry.specs.declared.flown.Flown.{Flown}
-use Rattle.flat_model.specs.Apart.{AreApart}
+use Rattle.client_model.specs.Apart.{AreApart}
 use Rattle.client_core.specs.Valid.{AreRising}
 use Rattle.client_core.specs.Held.{Held, fence_first_in, has_unsent, held_at, may_send, next_part, part_to_send, print_of, request_at}
 use Rattle.client_core.specs.Fields.{call_in, flown_of, standing_by, standing_flown, standing_in, IsFit}

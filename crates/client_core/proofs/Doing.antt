@@ -10,8 +10,8 @@ use Rattle.cl_types.specs.declared.call.Call.TheVariants as call
 use Rattle.cl_types.specs.declared.frame.Head.{Head}
 use Rattle.cl_types.specs.declared.request.Request.{Request}
 use Rattle.cl_types.specs.declared.reply.Part.{Part}
-use Rattle.flat_model.specs.Cut.{GivenUp, combine}
-use Rattle.flat_model.specs.Client.{ClientPart, ClientState, EndsFence, Finished, GivesUp, Idles, Polled, Sending, Sends, after_poll, after_polled, again, anew, at_moment, fence_first, first_some, flights, has_room_in_flight, poll as poll_of, sendable, to_give_up, to_send, to_send_again}
+use Rattle.client_model.specs.Cut.{GivenUp, combine}
+use Rattle.client_model.specs.Client.{ClientPart, ClientState, EndsFence, Finished, GivesUp, Idles, Polled, Sending, Sends, after_poll, after_polled, again, anew, at_moment, fence_first, first_some, flights, has_room_in_flight, poll as poll_of, sendable, to_give_up, to_send, to_send_again}
 use Rattle.client_retry.specs.declared.flown.Flown.{Flown}
 use Rattle.client_retry.specs.declared.due.Due.{Due}
 use Rattle.client_retry.specs.declared.due.Due.TheVariants as due

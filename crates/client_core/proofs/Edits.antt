@@ -6,9 +6,9 @@ use Rattle.std.proofs.lemmas.Bool.Decides.{nat_tests}
 use Rattle.std.proofs.lemmas.List.{map-append}
 use Rattle.std.proofs.lemmas.Option.{get_or_from_slice_get, slice_get_read}
 use Rattle.cl_types.specs.declared.reply.Part.{Part}
-use Rattle.flat_model.specs.Cut.{Ending, cut}
-use Rattle.flat_model.specs.Client.{Finished, every}
-use Rattle.flat_model.specs.Order.{Footprint, is_fence}
+use Rattle.client_model.specs.Cut.{Ending, cut}
+use Rattle.client_model.specs.Client.{Finished, every}
+use Rattle.client_model.specs.Order.{Footprint, is_fence}
 use Rattle.client_core.specs.declared.ended.Ended.{Ended}
 use Rattle.client_core.specs.Rows.{AreKept, finished_of}
 use Rattle.client_core.specs.Valid.{AreRising}

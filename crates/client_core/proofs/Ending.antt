@@ -8,10 +8,10 @@ use Rattle.std.proofs.lemmas.List.Sums.{sum_by-append, sum_by-cons}
 use Rattle.cl_types.specs.declared.call.Call.{Call}
 use Rattle.cl_types.specs.declared.request.Request.{Request}
 use Rattle.cl_types.specs.declared.reply.Part.{Part}
-use Rattle.flat_model.specs.Cut.{cut, Ending, combine, handed_back}
-use Rattle.flat_model.specs.Order.{is_fence}
+use Rattle.client_model.specs.Cut.{cut, Ending, combine, handed_back}
+use Rattle.client_model.specs.Order.{is_fence}
 use Rattle.cl_types.specs.Parts.{same_part}
-use Rattle.flat_model.specs.Client.{ClientCall, ClientPart, Finished, Sending, Standing, Unsent, InFlight, Over, all_over, call_standing, emptied, ending_of, every, finished, finished_with, flight, named, parts_of, standing_so}
+use Rattle.client_model.specs.Client.{ClientCall, ClientPart, Finished, Sending, Standing, Unsent, InFlight, Over, all_over, call_standing, emptied, ending_of, every, finished, finished_with, flight, named, parts_of, standing_so}
 use Rattle.client_retry.specs.declared.flown.Flown.{Flown}
 use Rattle.client_core.specs.Held.{Held, ended_of, ended_with}
 use Rattle.client_core.specs.Fields.{standing_by, standing_flown, standing_in, call_in, flown_of, flown_among, IsFit}

@@ -6,7 +6,7 @@ use Rattle.std.specs.List.{cons_option, AllByRecursion as Each}
 use Rattle.cl_types.specs.declared.request.Request.{Request}
 use Rattle.cl_types.specs.declared.reply.Part.{Part}
 use Rattle.cl_types.specs.Parts.{same_part}
-use Rattle.flat_model.specs.Client.{ClientPart, Standing, Unsent, InFlight, Over, Outgoing, flight, part_changed, gone_out}
+use Rattle.client_model.specs.Client.{ClientPart, Standing, Unsent, InFlight, Over, Outgoing, flight, part_changed, gone_out}
 use Rattle.client_retry.specs.declared.flown.Flown.{Flown}
 use Rattle.client_retry.specs.Flights.{is_before, with_flown, without, sent_again}
 use Rattle.client_core.specs.Fields.{flown_of, flown_among as flown}

@@ -13,12 +13,12 @@ use Rattle.cl_types.specs.declared.request.Request.TheVariants as request
 use Rattle.cl_types.specs.declared.reply.Part.{Part}
 use Rattle.cl_types.specs.declared.reply.Reply.{Reply}
 use Rattle.cl_types.specs.declared.reply.Reply.TheVariants as reply
-use Rattle.flat_model.specs.Cut.{Replied, cut}
+use Rattle.client_model.specs.Cut.{Replied, cut}
 use Rattle.cl_types.specs.Kinds.{kind_number}
-use Rattle.flat_model.specs.Frames.{head_in, is_reply_of, kind_of, reply_fault, reply_in}
-use Rattle.flat_model.specs.FrameLaws.{ReadsAsReply}
-use Rattle.flat_model.specs.Client.{ClientState, InFlight, Over, Sending, Standing, Unsent, after_part, answered, flight, flight_under, flights}
-use Rattle.flat_model.specs.Hearing.{Hearing, HearsBad, HearsOther, HearsLate, HearsUnfit, HearsReply, after_hearing, heard_good, heard_in_flight, heard_judged, hearing, is_as_long, is_fit}
+use Rattle.frame_model.specs.Frames.{head_in, is_reply_of, kind_of, reply_fault, reply_in}
+use Rattle.frame_model.specs.FrameLaws.{ReadsAsReply}
+use Rattle.client_model.specs.Client.{ClientState, InFlight, Over, Sending, Standing, Unsent, after_part, answered, flight, flight_under, flights}
+use Rattle.client_model.specs.Hearing.{Hearing, HearsBad, HearsOther, HearsLate, HearsUnfit, HearsReply, after_hearing, heard_good, heard_in_flight, heard_judged, hearing, is_as_long, is_fit}
 use Rattle.call_cut.specs.Taking.{TakesFor, is_reply_to}
 use Rattle.client_retry.specs.declared.flown.Flown.{Flown}
 use Rattle.client_retry.specs.Flights.{Flights, without}

@@ -16,17 +16,17 @@ use Rattle.cl_types.specs.declared.frame.IssueFault.{IssueFault}
 use Rattle.cl_types.specs.declared.request.Request.{Request}
 use Rattle.cl_types.specs.declared.reply.Part.{Part}
 use Rattle.cl_types.specs.declared.limits.TheConstants.{CALL_BYTES}
-use Rattle.flat_model.specs.Cut.{Ending, combine, cut, pieces}
-use Rattle.flat_model.specs.Faults.{first_fault}
-use Rattle.flat_model.specs.Issue.{call_faults, issue_fault}
-use Rattle.flat_model.specs.Order.{is_fence}
+use Rattle.client_model.specs.Cut.{Ending, combine, cut, pieces}
+use Rattle.frame_model.specs.Faults.{first_fault}
+use Rattle.client_model.specs.Issue.{call_faults, issue_fault}
+use Rattle.client_model.specs.Order.{is_fence}
 use Rattle.cl_types.specs.Parts.{same_part}
-use Rattle.flat_model.specs.Client.{ClientCall, ClientPart, ClientState, EndsFence, Finished, Standing, Unsent, after_issue, after_polled, call_standing, emptied, ending_of, every, finished, finished_with, flight, held, is_fence_of, named, parts_named, parts_of, standing_so}
+use Rattle.client_model.specs.Client.{ClientCall, ClientPart, ClientState, EndsFence, Finished, Standing, Unsent, after_issue, after_polled, call_standing, emptied, ending_of, every, finished, finished_with, flight, held, is_fence_of, named, parts_named, parts_of, standing_so}
 use Rattle.client_retry.specs.declared.flown.Flown.{Flown}
 use Rattle.client_retry.specs.Flights.{Flights}
 use Rattle.call_cut.proofs.PieceLemmas.{few_pieces, pieces_next}
 use Rattle.client_core.specs.Answers.{issue_state}
-use Rattle.flat_model.specs.Apart.{AreApart}
+use Rattle.client_model.specs.Apart.{AreApart}
 use Rattle.client_core.specs.Valid.{AreRising, IsHeld, IsValid, name_of}
 use Rattle.client_core.specs.Held.{Held, Holding, fence_first_in, new_held}
 use Rattle.client_core.specs.Fields.{call_in, flown_among, flown_of, standing_by, standing_in, state_of, IsFit, IsSound}

@@ -8,13 +8,13 @@ use Rattle.std.proofs.lemmas.List.Sums.{sum_by-cons}
 use Rattle.cl_types.specs.declared.request.Request.{Request}
 use Rattle.cl_types.specs.declared.reply.Part.{Part}
 use Rattle.cl_types.specs.declared.limits.TheConstants.{HELD_CALLS, LAST_RESEND, TIMEOUT}
-use Rattle.flat_model.specs.Cut.{Ending}
-use Rattle.flat_model.specs.Order.{is_fence}
+use Rattle.client_model.specs.Cut.{Ending}
+use Rattle.client_model.specs.Order.{is_fence}
 use Rattle.cl_types.specs.Parts.{same_part}
-use Rattle.flat_model.specs.Client.{ClientCall, ClientPart, ClientState, Finished, Sending, Standing, Unsent, InFlight, Over, Outgoing, after_part, all_over, call_changed, ending_of, every, finished, finished_with, flight, flights, gone_out, held, part_changed, parts_of, sent_calls}
+use Rattle.client_model.specs.Client.{ClientCall, ClientPart, ClientState, Finished, Sending, Standing, Unsent, InFlight, Over, Outgoing, after_part, all_over, call_changed, ending_of, every, finished, finished_with, flight, flights, gone_out, held, part_changed, parts_of, sent_calls}
 use Rattle.client_retry.specs.declared.flown.Flown.{Flown}
 use Rattle.client_retry.specs.Flights.{is_before, with_flown, without, sent_again, has_orig}
-use Rattle.flat_model.specs.Apart.{AreApart}
+use Rattle.client_model.specs.Apart.{AreApart}
 use Rattle.client_core.specs.Valid.{AreRising, IsHeld, IsValid, name_of, origs, sendings_left}
 use Rattle.client_core.specs.Fields.{flown_of, flown_among}
 use Rattle.client_core.proofs.Basics.{none_some, each_weaker, each_filter}

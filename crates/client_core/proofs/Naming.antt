@@ -6,14 +6,14 @@ use Rattle.std.proofs.lemmas.Bool.Decides.{nat_tests}
 use Rattle.std.proofs.lemmas.Option.{slice_get-get_or}
 use Rattle.cl_types.specs.declared.request.Request.{Request}
 use Rattle.cl_types.specs.declared.reply.Part.{Part}
-use Rattle.flat_model.specs.Cut.{cut, Ending}
-use Rattle.flat_model.specs.Order.{is_fence}
+use Rattle.client_model.specs.Cut.{cut, Ending}
+use Rattle.client_model.specs.Order.{is_fence}
 use Rattle.cl_types.specs.Parts.{same_part}
-use Rattle.flat_model.specs.Client.{ClientPart, Standing, Unsent, InFlight, Over, flight, named, parts_of, standing_so}
+use Rattle.client_model.specs.Client.{ClientPart, Standing, Unsent, InFlight, Over, flight, named, parts_of, standing_so}
 use Rattle.client_retry.specs.declared.flown.Flown.{Flown}
 use Rattle.client_retry.specs.Flights.{is_before}
 use Rattle.client_core.specs.Held.{Held, held_at, IsAwaited}
-use Rattle.flat_model.specs.Apart.{AreApart}
+use Rattle.client_model.specs.Apart.{AreApart}
 use Rattle.client_core.specs.Valid.{AreRising}
 use Rattle.client_core.specs.Fields.{standing_by, standing_flown, standing_in, call_in, flown_of, flown_among, IsFit}
 use Rattle.client_core.proofs.Basics.{eqb_same, eqb_is, eqb_below, contrary, fence_parts, none_some, each_weaker, each_with, each_append, each_filter_map, each_map, each_found}

@@ -10,8 +10,8 @@ use Rattle.cl_types.specs.declared.numbers.CallNo.{CallNo}
 use Rattle.cl_types.specs.declared.frame.Head.{Head}
 use Rattle.cl_types.specs.declared.request.Request.{Request}
 use Rattle.cl_types.specs.declared.reply.Part.{Part}
-use Rattle.flat_model.specs.Cut.{Ending, GivenUp}
-use Rattle.flat_model.specs.Client.{ClientPart, ClientState, GivesUp, InFlight, Outgoing, Over, Polled, Sending, Sends, Standing, Unsent, after_polled, again, anew, flight, flights, given_up, has_room_in_flight, head_of, parts_of, sendable, to_give_up, to_send, to_send_again}
+use Rattle.client_model.specs.Cut.{Ending, GivenUp}
+use Rattle.client_model.specs.Client.{ClientPart, ClientState, GivesUp, InFlight, Outgoing, Over, Polled, Sending, Sends, Standing, Unsent, after_polled, again, anew, flight, flights, given_up, has_room_in_flight, head_of, parts_of, sendable, to_give_up, to_send, to_send_again}
 use Rattle.client_retry.specs.declared.flown.Flown.{Flown}
 use Rattle.client_retry.specs.declared.due.Due.{Due}
 use Rattle.client_retry.specs.declared.due.Due.TheVariants as due

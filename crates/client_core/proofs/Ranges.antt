@@ -13,10 +13,10 @@ use Rattle.cl_types.specs.declared.call.AtomicOp.{AtomicOp}
 use Rattle.cl_types.specs.declared.frame.IssueFault.{IssueFault}
 use Rattle.cl_types.specs.declared.request.Request.{Request}
 use Rattle.cl_types.specs.declared.request.Request.TheVariants as request
-use Rattle.flat_model.specs.Cut.{cut, pieces, pieces_within, piece_len}
-use Rattle.flat_model.specs.Faults.{first_fault}
-use Rattle.flat_model.specs.Issue.{call_faults}
-use Rattle.flat_model.specs.Ranges.{are_bytes, has_words, is_in_range}
+use Rattle.client_model.specs.Cut.{cut, pieces, pieces_within, piece_len}
+use Rattle.frame_model.specs.Faults.{first_fault}
+use Rattle.client_model.specs.Issue.{call_faults}
+use Rattle.cl_types.specs.Ranges.{are_bytes, has_words, is_in_range}
 use Rattle.cl_types.specs.declared.reply.Part.{Part}
 use Rattle.client_core.specs.Held.{Held, held_at, request_at}
 use Rattle.client_core.specs.Fields.{IsFit}

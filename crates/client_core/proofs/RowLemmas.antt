@@ -5,8 +5,8 @@ use Rattle.std.proofs.lemmas.Bool.Decides.{nat_tests}
 use Rattle.std.proofs.lemmas.List.{length-set}
 use Rattle.std.proofs.lemmas.List.Sums.{sum_by-cons}
 use Rattle.cl_types.specs.declared.call.Call.{Call}
-use Rattle.flat_model.specs.Client.{buffer_of, every}
-use Rattle.flat_model.specs.Cut.{Ending}
+use Rattle.client_model.specs.Client.{buffer_of, every}
+use Rattle.client_model.specs.Cut.{Ending}
 use Rattle.call_cut.specs.declared.outcome.Outcome.{Outcome}
 use Rattle.call_cut.specs.Came.{came, came_in}
 use Rattle.call_cut.specs.Fills.{fills}

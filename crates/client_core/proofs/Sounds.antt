@@ -8,12 +8,12 @@ use Rattle.std.proofs.lemmas.Option.{slice_get_within}
 use Rattle.cl_types.specs.declared.numbers.ClientNo.{ClientNo}
 use Rattle.cl_types.specs.declared.request.Request.{Request}
 use Rattle.cl_types.specs.declared.reply.Part.{Part}
-use Rattle.flat_model.specs.Cut.{cut, Ending}
+use Rattle.client_model.specs.Cut.{cut, Ending}
 use Rattle.cl_types.specs.Parts.{same_part}
-use Rattle.flat_model.specs.Client.{ClientCall, ClientState, Sends, Standing, Unsent, InFlight, Over, Outgoing, after_part, after_polled, call_changed, finished, flight, gone_out, part_changed, parts_of}
+use Rattle.client_model.specs.Client.{ClientCall, ClientState, Sends, Standing, Unsent, InFlight, Over, Outgoing, after_part, after_polled, call_changed, finished, flight, gone_out, part_changed, parts_of}
 use Rattle.client_retry.specs.declared.flown.Flown.{Flown}
 use Rattle.client_retry.specs.Flights.{Flights, with_flown, without, sent_again, has_part}
-use Rattle.flat_model.specs.Apart.{AreApart}
+use Rattle.client_model.specs.Apart.{AreApart}
 use Rattle.client_core.specs.Valid.{AreRising, IsHeld, IsValid, sendings_left}
 use Rattle.client_core.specs.Held.{Held, Holding, IsGoing, after_coming, changed, ended_of, has_unsent, held_at, next_part, with_came, with_one_sent}
 use Rattle.client_core.specs.Fields.{call_in, flown_among, standing_by, standing_flown, standing_in, state_of, IsFit, IsSound}

@@ -7,9 +7,9 @@ use Rattle.std.proofs.lemmas.List.{get_or-set_other, get_or-set_same}
 use Rattle.cl_types.specs.declared.call.Call.{Call}
 use Rattle.cl_types.specs.declared.request.Request.{Request}
 use Rattle.cl_types.specs.declared.reply.Part.{Part}
-use Rattle.flat_model.specs.Cut.{cut, Ending}
+use Rattle.client_model.specs.Cut.{cut, Ending}
 use Rattle.cl_types.specs.Parts.{same_part}
-use Rattle.flat_model.specs.Client.{ClientCall, ClientPart, Standing, Unsent, InFlight, Over, Outgoing, call_changed, call_standing, emptied, gone_out, named, part_changed, standing_so}
+use Rattle.client_model.specs.Client.{ClientCall, ClientPart, Standing, Unsent, InFlight, Over, Outgoing, call_changed, call_standing, emptied, gone_out, named, part_changed, standing_so}
 use Rattle.client_retry.specs.declared.flown.Flown.{Flown}
 use Rattle.client_retry.specs.Flights.{is_before, with_flown, without, sent_again, has_part}
 use Rattle.client_core.specs.Held.{Held, changed, with_came, with_one_sent}

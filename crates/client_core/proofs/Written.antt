@@ -4,7 +4,7 @@ use Rattle.std.proofs.lemmas.List.{take-append-drop}
 use Rattle.cl_types.specs.Bytes.{with_bytes}
 use Rattle.cl_types.specs.declared.frame.Head.{Head}
 use Rattle.cl_types.specs.declared.request.Request.{Request}
-use Rattle.flat_model.specs.Frames.{request_frame}
+use Rattle.frame_model.specs.Frames.{request_frame}
 use Rattle.frame_codec.specs.Writing.{IsWritten}
 use Rattle.client_core.specs.Answers.{frame_bytes}
 

@@ -6,9 +6,9 @@ use Rattle.cl_types.specs.declared.frame.Head.{Head}
 use Rattle.cl_types.specs.declared.frame.IssueFault.{IssueFault}
 use Rattle.cl_types.specs.declared.request.Request.{Request}
 use Rattle.cl_types.specs.declared.reply.Answer.{Answer}
-use Rattle.flat_model.specs.Frames.{request_frame}
-use Rattle.flat_model.specs.Client.{ClientState, Outgoing, Polled, GivesUp, EndsFence, Sends, Idles, Finished, after_issue, after_reply, head_of}
-use Rattle.flat_model.specs.Hearing.{Hearing, HearsBad, HearsOther, HearsLate, HearsUnfit, HearsReply, hearing}
+use Rattle.frame_model.specs.Frames.{request_frame}
+use Rattle.client_model.specs.Client.{ClientState, Outgoing, Polled, GivesUp, EndsFence, Sends, Idles, Finished, after_issue, after_reply, head_of}
+use Rattle.client_model.specs.Hearing.{Hearing, HearsBad, HearsOther, HearsLate, HearsUnfit, HearsReply, hearing}
 use Rattle.client_core.specs.declared.answers.Poll.{Poll}
 use Rattle.client_core.specs.declared.answers.Poll.TheVariants as poll
 use Rattle.client_core.specs.declared.answers.Heard.{Heard}

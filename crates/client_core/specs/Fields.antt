@@ -3,12 +3,12 @@ use Rattle.std.specs.Prelude.{ℕ, ◌≡◌, ◌≤◌, Bool, true, false, nat_
 use Rattle.std.specs.List.{AllByRecursion as Each}
 use Rattle.cl_types.specs.declared.numbers.ClientNo.{ClientNo}
 use Rattle.cl_types.specs.declared.reply.Part.{Part}
-use Rattle.flat_model.specs.Cut.{cut, Ending}
-use Rattle.flat_model.specs.Faults.{first_fault}
-use Rattle.flat_model.specs.Issue.{call_faults}
+use Rattle.client_model.specs.Cut.{cut, Ending}
+use Rattle.frame_model.specs.Faults.{first_fault}
+use Rattle.client_model.specs.Issue.{call_faults}
 use Rattle.cl_types.specs.Parts.{same_part}
-use Rattle.flat_model.specs.Client.{ClientState, ClientCall, ClientPart, Sending, Standing, Unsent, InFlight, Over, call_standing, emptied, flight, flights, parts_of}
-use Rattle.flat_model.specs.Order.{Footprint}
+use Rattle.client_model.specs.Client.{ClientState, ClientCall, ClientPart, Sending, Standing, Unsent, InFlight, Over, call_standing, emptied, flight, flights, parts_of}
+use Rattle.client_model.specs.Order.{Footprint}
 use Rattle.client_retry.specs.declared.flown.Flown.{Flown}
 use Rattle.client_retry.specs.Flights.{Flights}
 use Rattle.client_core.specs.Held.{Held, Holding, print_of}

@@ -6,9 +6,9 @@ use Rattle.cl_types.specs.declared.numbers.CallNo.{CallNo}
 use Rattle.cl_types.specs.declared.call.Call.{Call}
 use Rattle.cl_types.specs.declared.request.Request.{Request}
 use Rattle.cl_types.specs.declared.reply.Part.{Part}
-use Rattle.flat_model.specs.Cut.{cut, Ending, combine, handed_back}
-use Rattle.flat_model.specs.Order.{is_fence, Footprint, footprint, ready_in}
-use Rattle.flat_model.specs.Client.{Finished, emptied, every}
+use Rattle.client_model.specs.Cut.{cut, Ending, combine, handed_back}
+use Rattle.client_model.specs.Order.{is_fence, Footprint, footprint, ready_in}
+use Rattle.client_model.specs.Client.{Finished, emptied, every}
 use Rattle.client_core.specs.Valid.{AreRising}
 
 -- a call that has not ended: its buffer is of zeros here, and of its parts the first ones were sent

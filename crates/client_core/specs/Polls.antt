@@ -1,7 +1,7 @@
 -- What one rule of a poll does. No public clause cites this module.
 use Rattle.std.specs.Prelude.{ℕ, ◌≡◌, List, map}
 use Rattle.cl_types.specs.Bytes.{with_bytes}
-use Rattle.flat_model.specs.Client.{ClientState, Polled, flights, after_polled, poll}
+use Rattle.client_model.specs.Client.{ClientState, Polled, flights, after_polled, poll}
 use Rattle.client_retry.specs.declared.due.Due.{Due}
 use Rattle.client_retry.specs.Rules.{due_of}
 use Rattle.client_core.specs.declared.answers.Poll.{Poll}

@@ -2,8 +2,8 @@
 use Rattle.std.specs.Prelude.{ℕ, ◌≡◌, ◌≤◌, List, length, map, count_by, is_none}
 use Rattle.cl_types.specs.declared.numbers.CallNo.{CallNo}
 use Rattle.cl_types.specs.declared.call.Call.{Call}
-use Rattle.flat_model.specs.Client.{Finished, emptied}
-use Rattle.flat_model.specs.Order.{Footprint}
+use Rattle.client_model.specs.Client.{Finished, emptied}
+use Rattle.client_model.specs.Order.{Footprint}
 use Rattle.call_cut.specs.declared.outcome.Outcome.{Outcome}
 use Rattle.call_cut.specs.Came.{came}
 use Rattle.call_cut.specs.Taking.{Gathers}

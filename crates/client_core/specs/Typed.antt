@@ -2,7 +2,7 @@
 use Rattle.std.specs.Prelude.{Bool, true, ◌&&◌, nat_lt}
 use Rattle.cl_types.specs.declared.request.Request.{Request}
 use Rattle.cl_types.specs.declared.request.Request.TheVariants as request
-use Rattle.flat_model.specs.Ranges.{are_bytes, has_words}
+use Rattle.cl_types.specs.Ranges.{are_bytes, has_words}
 
 -- the numbers of the request are those of their types
 abbrev pub is_typed_request : Request → Bool

@@ -5,10 +5,10 @@ use Rattle.cl_types.specs.declared.call.Call.{Call}
 use Rattle.cl_types.specs.declared.request.Request.{Request}
 use Rattle.cl_types.specs.declared.reply.Part.{Part}
 use Rattle.cl_types.specs.declared.limits.TheConstants.{HELD_CALLS, LAST_RESEND, TIMEOUT}
-use Rattle.flat_model.specs.Apart.{AreApart}
-use Rattle.flat_model.specs.Faults.{first_fault}
-use Rattle.flat_model.specs.Issue.{call_faults}
-use Rattle.flat_model.specs.Client.{ClientState, ClientCall, ClientPart, Standing, Unsent, InFlight, Over, Sending, parts_of, parts_named, flights, finished, held}
+use Rattle.client_model.specs.Apart.{AreApart}
+use Rattle.frame_model.specs.Faults.{first_fault}
+use Rattle.client_model.specs.Issue.{call_faults}
+use Rattle.client_model.specs.Client.{ClientState, ClientCall, ClientPart, Standing, Unsent, InFlight, Over, Sending, parts_of, parts_named, flights, finished, held}
 
 -- each number is above n and above those before it, and none above the last
 abbrev pub AreRising : ℕ → ℕ → List ℕ → Type 0

@@ -5,10 +5,10 @@ ghost use Rattle.std.specs.Prelude.{◌≡◌, ℕ, ◌+◌, ◌<◌, ◌≤◌,
 ghost use Rattle.std.specs.List.{AllByRecursion as Each, list_any};
 ghost use Rattle.cl_types.specs.Requests.{request_of, reply_of};
 ghost use Rattle.cl_types.specs.declared.call.Call.TheVariants.{Fence};
-ghost use Rattle.flat_model.specs.Cut.{Replied, GivenUp, combine};
-ghost use Rattle.flat_model.specs.Faults.{first_fault};
-ghost use Rattle.flat_model.specs.Issue.{call_faults};
-ghost use Rattle.flat_model.specs.Order.{is_fence, ready_in};
+ghost use Rattle.client_model.specs.Cut.{Replied, GivenUp, combine};
+ghost use Rattle.frame_model.specs.Faults.{first_fault};
+ghost use Rattle.client_model.specs.Issue.{call_faults};
+ghost use Rattle.client_model.specs.Order.{is_fence, ready_in};
 ghost use Rattle.call_cut.specs.Taking.{TakesFor};
 ghost use Rattle.client_core.specs.Held.{Held, held_at, new_held, print_of, changed, with_one_sent, has_unsent, with_ends, ended_of, after_coming, part_to_send, may_send, next_part as next_part_of, request_at, fence_first_in, IsAwaited, IsGoing};
 ghost use Rattle.client_core.specs.Rows.{finished_of};

@@ -2,8 +2,8 @@
 
 ghost use Rattle.std.specs.Prelude.{◌≡◌, ◌<◌, ◌≤◌, IfOk, None, leb, option_map, slice_get};
 ghost use Rattle.cl_types.specs.declared.numbers.TheConstants.{LAST_PID};
-ghost use Rattle.flat_model.specs.Client.{ClientState, after_done, held, new_client, ready_at as ready_at_of};
-ghost use Rattle.flat_model.specs.Issue.{issue_fault};
+ghost use Rattle.client_model.specs.Client.{ClientState, after_done, held, new_client, ready_at as ready_at_of};
+ghost use Rattle.client_model.specs.Issue.{issue_fault};
 ghost use Rattle.client_core.specs.Answers.{done_answer, issue_answer, issue_state};
 ghost use Rattle.client_core.specs.Valid.{IsValid};
 
@@ -40,7 +40,7 @@ pub struct Client {
 }
 
 impl Model for Client {
-    ghost use Rattle.flat_model.specs.Client.{ClientState};
+    ghost use Rattle.client_model.specs.Client.{ClientState};
 
     ghost Value = { ClientState };
 

@@ -2,8 +2,8 @@
 
 ghost use Rattle.std.specs.Prelude.{◌≡◌, ◌≤◌, ◌^◌, ◌==◌, ◌%◌, ◌*◌, ◌∷◌, ◌++◌, [], not, nat_lt, length};
 ghost use Rattle.cl_types.specs.declared.frame.IssueFault.TheVariants.{Empty, TooLong, Misaligned};
-ghost use Rattle.flat_model.specs.Faults.{first_fault};
-ghost use Rattle.flat_model.specs.Issue.{as_far_as_told, bytes_faults, call_faults};
+ghost use Rattle.frame_model.specs.Faults.{first_fault};
+ghost use Rattle.client_model.specs.Issue.{as_far_as_told, bytes_faults, call_faults};
 
 use cl_types::call::Call;
 use cl_types::frame::IssueFault;

@@ -2,11 +2,11 @@
 
 ghost use Rattle.std.specs.Prelude.{◌≡◌, ◌+◌, ◌<◌, length, true, None, Some, IfSome, is_some, slice_get};
 ghost use Rattle.cl_types.specs.Requests.{request_of, reply_of};
-ghost use Rattle.flat_model.specs.Client.{every};
-ghost use Rattle.flat_model.specs.Cut.{cut, Replied, GivenUp};
-ghost use Rattle.flat_model.specs.Faults.{first_fault};
-ghost use Rattle.flat_model.specs.Issue.{call_faults};
-ghost use Rattle.flat_model.specs.Order.{is_fence as is_fence_call};
+ghost use Rattle.client_model.specs.Client.{every};
+ghost use Rattle.client_model.specs.Cut.{cut, Replied, GivenUp};
+ghost use Rattle.frame_model.specs.Faults.{first_fault};
+ghost use Rattle.client_model.specs.Issue.{call_faults};
+ghost use Rattle.client_model.specs.Order.{is_fence as is_fence_call};
 ghost use Rattle.call_cut.specs.Taking.{TakesFor};
 ghost use Rattle.client_core.specs.Held.{new_held, next_part as next_part_of, has_unsent as has_unsent_part, with_one_sent, with_came, ended_with};
 ghost use Rattle.client_core.specs.Rows.{finished_of};

@@ -6,7 +6,7 @@ use Rattle.std.proofs.lemmas.List.{take-append-drop, take-append-le, take_more}
 use Rattle.std.proofs.Math.Seq.{take-append-add}
 use Rattle.cl_outside.specs.Loops.{WroteFront}
 use Rattle.cl_outside.specs.Told.{Added}
-use Rattle.flat_model.specs.Text.{Text}
+use Rattle.texts.specs.Text.{Text}
 use Rattle.clio_cli.specs.Gathered.{Gathered}
 
 -- ---- what was added

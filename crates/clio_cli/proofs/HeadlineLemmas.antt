@@ -1,17 +1,16 @@
 -- The laws of the account, for every schedule that was read.
 use Rattle.std.proofs.Common.{◌≡◌, ◌∙◌, ℕ, List, Ok, subst, sym}
 use Rattle.cl_types.specs.declared.schedule.Schedule.{Schedule}
-use Rattle.flat_model.specs.Events.{account}
-use Rattle.flat_model.specs.Grammar.{schedule_of}
-use Rattle.account_laws.specs.ReadSchedules.{IsGood}
-use Rattle.account_laws.specs.Schedules.{AreTyped, IsRisingFrom}
-use Rattle.account_laws.proofs.AnswersKept.{law_of_parts}
-use Rattle.account_laws.proofs.OrderKept.{law_of_order}
-use Rattle.account_laws.proofs.ReadSchedules.{schedules_are_good}
-use Rattle.account_laws.proofs.RunKept.{law_of_runs}
-use Rattle.account_laws.proofs.Spelled.{rises_from_zero}
-use Rattle.account_laws.proofs.StandsKept.{law_of_stands}
-use Rattle.account_laws.proofs.TimesKept.{law_of_times}
+use Rattle.trace.specs.Events.{account}
+use Rattle.texts.specs.Grammar.{schedule_of}
+use Rattle.trace.specs.Schedules.{IsGood, AreTyped, IsRisingFrom}
+use Rattle.history_laws.proofs.AnswersKept.{law_of_parts}
+use Rattle.history_laws.proofs.OrderKept.{law_of_order}
+use Rattle.trace_texts.proofs.ReadSchedules.{schedules_are_good}
+use Rattle.trace_laws.proofs.RunKept.{law_of_runs}
+use Rattle.trace_laws.proofs.Spelled.{rises_from_zero}
+use Rattle.history_laws.proofs.StandsKept.{law_of_stands}
+use Rattle.trace_laws.proofs.TimesKept.{law_of_times}
 use Rattle.clio_cli.specs.Headline.{EndsInHeadline, Headline, LeavesNothing}
 use Rattle.clio_cli.specs.Run.{Outside}
 use Rattle.clio_cli.specs.Status.{number_of}

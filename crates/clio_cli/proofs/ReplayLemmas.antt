@@ -10,16 +10,16 @@ use Rattle.cl_types.specs.declared.line.Entry.{Entry}
 use Rattle.cl_types.specs.declared.line.EventLine.{EventLine}
 use Rattle.cl_types.specs.declared.schedule.Event.{Event}
 use Rattle.cl_types.specs.declared.schedule.Schedule.{Schedule}
-use Rattle.flat_model.specs.Account.{Account, Effect, Line, now, nothing_yet}
-use Rattle.flat_model.specs.Events.{account_from, account_of_latest, effect, next_account}
-use Rattle.flat_model.specs.Handling.{latest}
-use Rattle.flat_model.specs.Text.{Text}
-use Rattle.flat_model.specs.Texts.{account_text, entry_text, line_text, numbered_text, transcript}
-use Rattle.account_laws.specs.ReadSchedules.{IsGood}
-use Rattle.account_laws.specs.Schedules.{IsRisingFrom}
-use Rattle.account_laws.proofs.Lists.{each_slice_get}
-use Rattle.account_laws.proofs.Spelled.{rises_from_zero}
-use Rattle.account_laws.proofs.WindowKept.{one_account}
+use Rattle.trace.specs.Account.{Account, Effect, Line, now, nothing_yet}
+use Rattle.trace.specs.Events.{account_from, account_of_latest, effect, next_account}
+use Rattle.node_model.specs.Handling.{latest}
+use Rattle.texts.specs.Text.{Text}
+use Rattle.trace_texts.specs.Transcripts.{account_text, line_text, transcript}
+use Rattle.texts.specs.Texts.{entry_text, numbered_text}
+use Rattle.trace.specs.Schedules.{IsGood, IsRisingFrom}
+use Rattle.lemmas.proofs.Lists.{each_slice_get}
+use Rattle.trace_laws.proofs.Spelled.{rises_from_zero}
+use Rattle.trace_laws.proofs.WindowKept.{one_account}
 use Rattle.world.specs.Follows.{StandsFor, StandsOn, opened}
 use Rattle.transcript_text.specs.Statuses.{HasGoodStatus}
 use Rattle.world.specs.Running.{IsFair, Running, stepped, summed_on}

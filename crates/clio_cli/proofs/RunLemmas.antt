@@ -6,9 +6,9 @@ use Rattle.cl_outside.specs.Told.{Added, Took}
 use Rattle.cl_outside.specs.declared.faults.Faults.{Faults}
 use Rattle.cl_outside.specs.declared.loops.TheConstants.{INPUT_LIMIT}
 use Rattle.cl_types.specs.declared.schedule.Schedule.{Schedule}
-use Rattle.flat_model.specs.Commands.{command_in}
-use Rattle.flat_model.specs.Text.{Text}
-use Rattle.flat_model.specs.Texts.{transcript}
+use Rattle.texts.specs.Commands.{command_in}
+use Rattle.texts.specs.Text.{Text}
+use Rattle.trace_texts.specs.Transcripts.{transcript}
 use Rattle.clio_cli.specs.Run.{Complete, Ends, EndsWith, Exactly, ExactlyOf, FaultsEndTheRun, Gave, NoFault, Outside, Wants, WantsBy}
 use Rattle.clio_cli.specs.Status.{number_of}
 use Rattle.clio_cli.specs.Verdict.{Verdict, HasBadNode, IsRefused, IsReplayable, IsTooLong, verdict}

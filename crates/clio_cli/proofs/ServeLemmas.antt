@@ -13,17 +13,17 @@ use Rattle.cl_types.specs.declared.config.Field.TheVariants as field
 use Rattle.cl_types.specs.declared.config.NodeConfig.{NodeConfig}
 use Rattle.cl_types.specs.declared.schedule.Event.{Event}
 use Rattle.cl_types.specs.declared.schedule.Schedule.{Schedule}
-use Rattle.flat_model.specs.Events.{keep_all}
+use Rattle.trace.specs.Events.{keep_all}
 use Rattle.flat_model.specs.Opening.{if_none_bad, open_fault, room_fault}
-use Rattle.flat_model.specs.declared.open_fault.OpenFault.{OpenFault}
-use Rattle.flat_model.specs.Text.{Text}
-use Rattle.flat_model.specs.Texts.{transcript}
-use Rattle.account_laws.specs.Schedules.{IsRisingFrom}
-use Rattle.account_laws.proofs.AddsUp.{summaries_add_up}
-use Rattle.account_laws.proofs.ReadSchedules.{schedules_are_good}
-use Rattle.account_laws.proofs.SameParts.{and_left}
-use Rattle.account_laws.proofs.Spelled.{frames_are_spelled, rises_from_zero}
-use Rattle.account_laws.proofs.WindowKept.{one_account}
+use Rattle.cl_types.specs.declared.open_fault.OpenFault.{OpenFault}
+use Rattle.texts.specs.Text.{Text}
+use Rattle.trace_texts.specs.Transcripts.{transcript}
+use Rattle.trace.specs.Schedules.{IsRisingFrom}
+use Rattle.history_laws.proofs.AddsUp.{summaries_add_up}
+use Rattle.trace_texts.proofs.ReadSchedules.{schedules_are_good}
+use Rattle.lemmas.proofs.SameParts.{and_left}
+use Rattle.trace_laws.proofs.Spelled.{frames_are_spelled, rises_from_zero}
+use Rattle.trace_laws.proofs.WindowKept.{one_account}
 use Rattle.world.specs.Running.{Running}
 use Rattle.clio_cli.specs.Replay.{IsServed, Plays}
 use Rattle.clio_cli.specs.Run.{Ends, Outside, Wants, WantsBy}

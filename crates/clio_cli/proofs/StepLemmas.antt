@@ -14,15 +14,15 @@ use Rattle.cl_types.specs.declared.reply.Reply.{Reply}
 use Rattle.cl_types.specs.declared.reply.Reply.TheVariants as reply
 use Rattle.cl_types.specs.declared.schedule.Event.{Event}
 use Rattle.cl_types.specs.declared.schedule.Event.TheVariants as event
-use Rattle.flat_model.specs.Client.{ClientState, Outgoing, Polled, GivesUp, EndsFence, Sends, Idles, poll}
-use Rattle.flat_model.specs.Clients.{call_of, expanded}
-use Rattle.flat_model.specs.Events.{sent_text}
-use Rattle.flat_model.specs.Frames.{Item, head_in, reply_fault, request_fault, request_in, status_in}
-use Rattle.flat_model.specs.Handling.{latest}
-use Rattle.flat_model.specs.Hearing.{Hearing, HearsBad, HearsOther, HearsLate, HearsUnfit, HearsReply, hearing}
-use Rattle.flat_model.specs.Issue.{issue_fault}
-use Rattle.flat_model.specs.Nodes.{Said, Gives, IsBusy, step_item}
-use Rattle.flat_model.specs.Pages.{page_of}
+use Rattle.client_model.specs.Client.{ClientState, Outgoing, Polled, GivesUp, EndsFence, Sends, Idles, poll}
+use Rattle.cl_types.specs.Written.{call_of, expanded}
+use Rattle.trace.specs.Events.{sent_text}
+use Rattle.frame_model.specs.Frames.{Item, head_in, reply_fault, request_fault, request_in, status_in}
+use Rattle.node_model.specs.Handling.{latest}
+use Rattle.client_model.specs.Hearing.{Hearing, HearsBad, HearsOther, HearsLate, HearsUnfit, HearsReply, hearing}
+use Rattle.client_model.specs.Issue.{issue_fault}
+use Rattle.node_model.specs.Nodes.{Said, Gives, IsBusy, step_item}
+use Rattle.cl_types.specs.Pages.{page_of}
 use Rattle.flat_model.specs.State.{Page, page_at}
 use Rattle.link_sim.specs.Got.{Found, Live, Expired, Absent, found_at}
 use Rattle.link_sim.specs.LinkFrames.{SentFrame, frame_at, next_handed, next_number}

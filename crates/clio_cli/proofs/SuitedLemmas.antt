@@ -12,18 +12,18 @@ use Rattle.cl_types.specs.declared.schedule.Event.TheVariants as event
 use Rattle.cl_types.specs.declared.schedule.Schedule.{Schedule}
 use Rattle.cl_types.specs.declared.schedule.What.{What}
 use Rattle.cl_types.specs.declared.schedule.What.TheVariants.{BadLength, ClientExpected, ClientRepeated, TooManyClients}
-use Rattle.flat_model.specs.Faults.{first_fault}
-use Rattle.flat_model.specs.Grammar.{Fault, Reading, Said, Node, Offload, Client, Happens, at_end, event_faults, is_given, judged_line, judged_said, line_read, nothing_read, place_faults, read_more, said_by_words, said_faults, schedule_from}
-use Rattle.flat_model.specs.Pages.{offset_of}
-use Rattle.flat_model.specs.Ranges.{is_good_address}
-use Rattle.flat_model.specs.Text.{Text, first_word, is_empty, is_skipped, lines_in, words_in}
+use Rattle.frame_model.specs.Faults.{first_fault}
+use Rattle.texts.specs.Grammar.{Fault, Reading, Said, Node, Offload, Client, Happens, at_end, event_faults, is_given, judged_line, judged_said, line_read, nothing_read, place_faults, read_more, said_by_words, said_faults, schedule_from}
+use Rattle.cl_types.specs.Pages.{offset_of}
+use Rattle.cl_types.specs.Ranges.{is_good_address}
+use Rattle.texts.specs.Text.{Text, first_word, is_empty, is_skipped, lines_in, words_in}
 use Rattle.schedule_text.specs.Reading.{too_long_of}
 use Rattle.schedule_text.specs.declared.fault.ScheduleFault.{ScheduleFault}
 use Rattle.schedule_text.specs.declared.fault.ScheduleFault.TheVariants.{TooLong}
 use Rattle.schedule_text.specs.declared.fault.TheConstants.{MOST_BYTES, MOST_LINES}
-use Rattle.account_laws.proofs.Lists.{each_append, each_weaker}
-use Rattle.account_laws.proofs.ReadSchedules.{IsMeasured, IsSaid, no_ok, ok_is, words_say}
-use Rattle.flat_model.specs.Apart.{AreApart}
+use Rattle.lemmas.proofs.Lists.{each_append, each_weaker}
+use Rattle.trace_texts.proofs.ReadSchedules.{IsMeasured, IsSaid, no_ok, ok_is, words_say}
+use Rattle.client_model.specs.Apart.{AreApart}
 use Rattle.world.specs.Running.{HaveNumbersApart, IsFair}
 use Rattle.clio_cli.specs.Suited.{SchedulesAreSuited}
 

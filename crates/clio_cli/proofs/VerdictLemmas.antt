@@ -3,9 +3,9 @@ use Rattle.std.proofs.Common.{◌≡◌, ℕ, ◌+◌, ◌<◌, true, List, leng
 use Rattle.std.specs.Prelude.{Result, nat_lt}
 use Rattle.std.proofs.lemmas.Bool.Decides.{nat_tests}
 use Rattle.cl_types.specs.declared.schedule.Schedule.{Schedule}
-use Rattle.flat_model.specs.Grammar.{Fault, schedule_of}
+use Rattle.texts.specs.Grammar.{Fault, schedule_of}
 use Rattle.flat_model.specs.Opening.{open_fault}
-use Rattle.flat_model.specs.declared.open_fault.OpenFault.{OpenFault}
+use Rattle.cl_types.specs.declared.open_fault.OpenFault.{OpenFault}
 use Rattle.schedule_text.specs.Reading.{too_long_of}
 use Rattle.schedule_text.specs.declared.fault.ScheduleFault.{ScheduleFault}
 use Rattle.schedule_text.specs.declared.fault.ScheduleFault.TheVariants as long

@@ -3,10 +3,10 @@ use Rattle.std.proofs.Common.{◌≡◌, ◌≤◌, Bool, true, false, List, [],
 use Rattle.std.specs.Prelude.{Result, bytes_eq, codes, nat_lt, if◌then◌else◌}
 use Rattle.std.proofs.lemmas.Bool.Decides.{nat_tests}
 use Rattle.cl_types.specs.declared.schedule.What.{What}
-use Rattle.flat_model.specs.Commands.{Command, Replay, Check, client_command, command_in, counts, in_form, made, node_command, plain, storm_command}
-use Rattle.flat_model.specs.Grammar.{u16, u64}
-use Rattle.flat_model.specs.Text.{Text}
-use Rattle.flat_model.specs.Words.{Number, Value, N, arguments_in}
+use Rattle.texts.specs.Commands.{Command, Replay, Check, client_command, command_in, counts, in_form, made, node_command, plain, storm_command}
+use Rattle.texts.specs.Grammar.{u16, u64}
+use Rattle.texts.specs.Text.{Text}
+use Rattle.texts.specs.Words.{Number, Value, N, arguments_in}
 use Rattle.clio_cli.specs.Words.{is_built_command}
 
 -- the command of words behind the first, by which word that is

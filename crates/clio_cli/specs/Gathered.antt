@@ -3,7 +3,7 @@ use Rattle.std.specs.Prelude.{◌≡◌, ℕ, ◌++◌, List, Option, Result, Ok
 use Rattle.cl_outside.specs.Counts.{LastFailed, NoneFailed}
 use Rattle.cl_outside.specs.Told.{Added}
 use Rattle.cl_outside.specs.declared.faults.Faults.{Faults}
-use Rattle.flat_model.specs.Text.{Text}
+use Rattle.texts.specs.Text.{Text}
 use Rattle.clio_cli.specs.declared.gather.Cut.{Cut}
 use Rattle.clio_cli.specs.declared.gather.Cut.TheVariants as cut
 

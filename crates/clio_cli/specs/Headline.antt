@@ -4,15 +4,15 @@ use Rattle.std.specs.List.{AllByRecursion as Each}
 use Rattle.cl_outside.specs.Told.{Added}
 use Rattle.cl_types.specs.declared.config.Config.{Config}
 use Rattle.cl_types.specs.declared.schedule.Schedule.{Schedule}
-use Rattle.flat_model.specs.Account.{Account, Frame}
-use Rattle.flat_model.specs.Events.{account, account_of_latest}
-use Rattle.flat_model.specs.Grammar.{schedule_of}
-use Rattle.flat_model.specs.Properties.{Once, Ordered, Peeks, Stands}
+use Rattle.trace.specs.Account.{Account, Frame}
+use Rattle.trace.specs.Events.{account, account_of_latest}
+use Rattle.texts.specs.Grammar.{schedule_of}
+use Rattle.trace.specs.Properties.{Once, Ordered, Peeks, Stands}
 use Rattle.flat_model.specs.Run.{IsRun}
-use Rattle.flat_model.specs.Texts.{transcript}
-use Rattle.account_laws.specs.Ends.{AddsUp}
-use Rattle.account_laws.specs.Spelled.{SpellsLoad}
-use Rattle.account_laws.specs.Times.{AreOfAge}
+use Rattle.trace_texts.specs.Transcripts.{transcript}
+use Rattle.history_laws.specs.Ends.{AddsUp}
+use Rattle.trace_laws.specs.Spelled.{SpellsLoad}
+use Rattle.trace_laws.specs.Times.{AreOfAge}
 use Rattle.clio_cli.specs.Run.{IsInput, Outside}
 use Rattle.clio_cli.specs.Status.{number_of}
 use Rattle.clio_cli.specs.Verdict.{IsReplayable}

@@ -7,11 +7,11 @@ use Rattle.cl_outside.specs.declared.faults.Faults.{Faults}
 use Rattle.cl_types.specs.declared.line.Entry.{Entry}
 use Rattle.cl_types.specs.declared.schedule.Event.{Event}
 use Rattle.cl_types.specs.declared.schedule.Schedule.{Schedule}
-use Rattle.flat_model.specs.Events.{account_of_latest}
-use Rattle.flat_model.specs.Text.{Text, line_of}
-use Rattle.flat_model.specs.Texts.{entry_text, line_text, numbered_text, transcript}
-use Rattle.account_laws.specs.ReadSchedules.{IsGood}
-use Rattle.account_laws.specs.Schedules.{IsRisingFrom}
+use Rattle.trace.specs.Events.{account_of_latest}
+use Rattle.texts.specs.Text.{Text, line_of}
+use Rattle.texts.specs.Texts.{entry_text, numbered_text}
+use Rattle.trace_texts.specs.Transcripts.{line_text, transcript}
+use Rattle.trace.specs.Schedules.{IsGood, IsRisingFrom}
 use Rattle.world.specs.Follows.{StandsFor}
 use Rattle.world.specs.Running.{Running}
 use Rattle.world.specs.Worlds.{Stepped, World, step}

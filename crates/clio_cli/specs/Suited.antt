@@ -4,7 +4,7 @@ use Rattle.std.specs.List.{AllByRecursion as Each}
 use Rattle.cl_types.specs.declared.limits.TheConstants.{MOST_CLIENTS}
 use Rattle.cl_types.specs.declared.schedule.Event.{Event}
 use Rattle.cl_types.specs.declared.schedule.Schedule.{Schedule}
-use Rattle.flat_model.specs.Grammar.{schedule_of}
+use Rattle.texts.specs.Grammar.{schedule_of}
 use Rattle.schedule_text.specs.Reading.{too_long_of}
 use Rattle.world.specs.Running.{HaveNumbersApart, IsFair}
 

@@ -1,11 +1,12 @@
 -- The verdict on an input: the text that the program writes for its bytes, and the status with which it then ends.
 use Rattle.std.specs.Prelude.{◌≡◌, ℕ, true, List, ◌++◌, Option, Some, None, Result, Ok, Err, codes}
 use Rattle.cl_types.specs.declared.schedule.Schedule.{Schedule}
-use Rattle.flat_model.specs.Grammar.{Fault, schedule_of}
+use Rattle.texts.specs.Grammar.{Fault, schedule_of}
 use Rattle.flat_model.specs.Opening.{open_fault}
-use Rattle.flat_model.specs.Text.{Text, line_end}
-use Rattle.flat_model.specs.Texts.{fault_line, open_fault_line, transcript}
-use Rattle.flat_model.specs.declared.open_fault.OpenFault.{OpenFault}
+use Rattle.texts.specs.Text.{Text, line_end}
+use Rattle.texts.specs.Texts.{fault_line, open_fault_line}
+use Rattle.trace_texts.specs.Transcripts.{transcript}
+use Rattle.cl_types.specs.declared.open_fault.OpenFault.{OpenFault}
 use Rattle.schedule_text.specs.Reading.{too_long_of}
 use Rattle.schedule_text.specs.declared.fault.ScheduleFault.{ScheduleFault}
 use Rattle.schedule_text.specs.declared.fault.ScheduleFault.TheVariants.{TooLong}

@@ -3,10 +3,10 @@ use Rattle.std.specs.Prelude.{◌≡◌, ℕ, true, List, Option, Some, None, Is
 use Rattle.cl_outside.specs.Counts.{LastFailed, NoneFailed}
 use Rattle.cl_outside.specs.declared.faults.Faults.{Faults}
 use Rattle.cl_types.specs.declared.schedule.Schedule.{Schedule}
-use Rattle.flat_model.specs.Commands.{command_in}
-use Rattle.flat_model.specs.Text.{Text}
+use Rattle.texts.specs.Commands.{command_in}
+use Rattle.texts.specs.Text.{Text}
 use Rattle.flat_model.specs.Opening.{open_fault}
-use Rattle.flat_model.specs.declared.open_fault.OpenFault.{OpenFault}
+use Rattle.cl_types.specs.declared.open_fault.OpenFault.{OpenFault}
 use Rattle.world.specs.Follows.{opened}
 use Rattle.clio_cli.specs.Headline.{Replays}
 use Rattle.clio_cli.specs.Run.{IsInput, Outside, Wants, WantsBy}

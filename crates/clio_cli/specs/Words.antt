@@ -1,6 +1,6 @@
 -- Which command lines are built.
 use Rattle.std.specs.Prelude.{Bool, true, false, Option, Some}
-use Rattle.flat_model.specs.Commands.{Command, Replay}
+use Rattle.texts.specs.Commands.{Command, Replay}
 
 -- the command is there and is built
 abbrev pub is_built_command : Option Command → Bool

@@ -2,12 +2,12 @@
 
 ghost use Rattle.std.specs.Prelude.{◌≡◌, IfOk};
 ghost use Rattle.std.specs.String.{string_bytes};
-ghost use Rattle.flat_model.specs.Texts.{fault_line, number_text, open_fault_line, what_text};
+ghost use Rattle.texts.specs.Texts.{fault_line, number_text, open_fault_line, what_text};
 
 use cl_types::config::Field;
 use cl_types::items::NoMemory;
+use cl_types::open_fault::OpenFault;
 use cl_types::schedule::What;
-use flat_model::open_fault::OpenFault;
 use std::alloc::Global;
 
 /// The words for what is wrong with a line.

@@ -1,7 +1,7 @@
 //! What the bytes of an input ask for: a text that tells why nothing is replayed, or a replay.
 
 ghost use Rattle.std.specs.Prelude.{◌≡◌, Ok, Err, Some, None, IfErr, IfOk};
-ghost use Rattle.flat_model.specs.Grammar.{schedule_of};
+ghost use Rattle.texts.specs.Grammar.{schedule_of};
 ghost use Rattle.flat_model.specs.Opening.{open_fault};
 ghost use Rattle.world.specs.Follows.{opened};
 ghost use Rattle.world.specs.Running.{HaveNumbersApart};
@@ -12,8 +12,8 @@ use crate::faults::{line_fault, node_fault};
 use crate::status::Status;
 use cl_types::config::Config;
 use cl_types::items::{Bytes, NoMemory};
+use cl_types::open_fault::OpenFault;
 use cl_types::schedule::{Schedule, What};
-use flat_model::open_fault::OpenFault;
 use schedule_text::{ScheduleFault, read};
 use std::alloc::Global;
 use world::World;

@@ -3,7 +3,8 @@
 ghost use Rattle.std.specs.Prelude.{◌≡◌, ◌++◌, ◌∷◌, ◌^◌, ◌<◌, [], false, OnErr, OnOk, codes, decimal, flat_map, length};
 ghost use Rattle.cl_outside.specs.Loops.{WroteFront};
 ghost use Rattle.cl_outside.specs.Told.{Added};
-ghost use Rattle.flat_model.specs.Texts.{entry_text, transcript};
+ghost use Rattle.texts.specs.Texts.{entry_text};
+ghost use Rattle.trace_texts.specs.Transcripts.{transcript};
 ghost use Rattle.world.specs.Follows.{StandsFor, opened};
 ghost use Rattle.world.specs.Running.{IsFair, summed_on};
 ghost use Rattle.world.specs.Worlds.{step};

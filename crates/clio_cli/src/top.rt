@@ -2,7 +2,7 @@
 
 ghost use Rattle.std.specs.Prelude.{◌≡◌, ◌+◌, IfOk, IsErrOf, IsTrue, false};
 ghost use Rattle.cl_outside.specs.Loops.{TookUpTo};
-ghost use Rattle.flat_model.specs.Commands.{command_in};
+ghost use Rattle.texts.specs.Commands.{command_in};
 ghost use Rattle.clio_cli.specs.Headline.{EndsInHeadline, LeavesNothing};
 ghost use Rattle.clio_cli.specs.Run.{Complete, Ends, EndsWith, Exactly, ExactlyOf, FaultsEndTheRun, Takes, outside};
 ghost use Rattle.clio_cli.specs.Verdict.{HasBadNode, IsRefused, IsTooLong};

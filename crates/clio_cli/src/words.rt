@@ -1,7 +1,7 @@
 //! The words of a command line.
 
 ghost use Rattle.std.specs.Prelude.{◌≡◌, ◌++◌, ◌∷◌, [], OnErr, OnOk};
-ghost use Rattle.flat_model.specs.Commands.{command_in};
+ghost use Rattle.texts.specs.Commands.{command_in};
 ghost use Rattle.clio_cli.specs.Words.{is_built_command};
 
 use cl_types::items::{Bytes, Items, NoMemory};

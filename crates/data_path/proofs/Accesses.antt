@@ -13,7 +13,7 @@ use Rattle.cl_types.proofs.PlaceLemmas.{place_total, place_exact, same_place-sel
 use Rattle.hash_buckets.specs.PageMap.{PageMap, entry_of}
 use Rattle.page_arena.specs.Arena.{page_at as arena_page}
 use Rattle.translate_cache.specs.Cached.{Cached}
-use Rattle.flat_model.specs.Pages.{page_of}
+use Rattle.cl_types.specs.Pages.{page_of}
 use Rattle.flat_model.specs.State.{FlatState, Page, page_at, bytes_of}
 use Rattle.flat_model.specs.Step.{if_pages_last, is_out_of_pages, written}
 use Rattle.data_path.specs.declared.store.PageStore.{PageStore}

@@ -22,7 +22,7 @@ use Rattle.range_alloc.specs.Ranges.{AreRanges, IsIn, frame_at, span_at}
 use Rattle.range_alloc.proofs.Entries.{entry-with, frame_in, span_in, sorted_table}
 use Rattle.translate_cache.specs.Cached.{Cached}
 use Rattle.translate_cache.specs.Cached.{entry_of as cached_entry}
-use Rattle.flat_model.specs.Pages.{page_of, offset_of}
+use Rattle.cl_types.specs.Pages.{page_of, offset_of}
 use Rattle.flat_model.specs.Rows.{keys}
 use Rattle.flat_model.specs.State.{Page, page_at, used, bytes_of}
 use Rattle.flat_model.specs.Step.{written, is_out_of_pages}

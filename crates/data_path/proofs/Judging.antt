@@ -8,7 +8,7 @@ use Rattle.cl_types.specs.declared.config.NodeConfig.{NodeConfig}
 use Rattle.cl_types.specs.declared.config.OffloadConfig.{OffloadConfig}
 use Rattle.std.proofs.lemmas.List.{length-map, length-take, take_all}
 use Rattle.cl_types.specs.Config.{bad_number_of, first_bad, judged_offload, offload_pages}
-use Rattle.flat_model.specs.declared.open_fault.OpenFault.{OpenFault}
+use Rattle.cl_types.specs.declared.open_fault.OpenFault.{OpenFault}
 use Rattle.flat_model.specs.Opening.{first_without_room, has_room, held_by, if_none_bad, open_fault, room_fault}
 use Rattle.flat_model.specs.Rows.{AreFourAtMost}
 use Rattle.flat_model.proofs.BucketLemmas.{first_of_both}

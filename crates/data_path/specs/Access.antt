@@ -11,7 +11,7 @@ use Rattle.cl_types.specs.declared.reply.Reply.TheVariants.{Refused}
 use Rattle.cl_types.specs.Places.{Place}
 use Rattle.hash_buckets.specs.PageMap.{entry_of, with_entry}
 use Rattle.page_arena.specs.Arena.{page_at as arena_page}
-use Rattle.flat_model.specs.Pages.{page_of, offset_of}
+use Rattle.cl_types.specs.Pages.{page_of, offset_of}
 use Rattle.flat_model.specs.State.{FlatState, Page, bytes_of}
 use Rattle.flat_model.specs.Step.{Outcome, refused, on_page, on_bytes, is_out_of_pages, may_read, may_write, may_change, written}
 use Rattle.data_path.specs.declared.need.Need.{Need}

@@ -9,7 +9,7 @@ ghost use Rattle.page_arena.specs.Arena.{page_at as arena_page};
 ghost use Rattle.page_pool.specs.PoolPages.{IsReady, IsTaken};
 ghost use Rattle.range_alloc.specs.Ranges.{frame_at};
 ghost use Rattle.translate_cache.specs.Cached.{entry_of as cached_entry};
-ghost use Rattle.flat_model.specs.Pages.{page_of};
+ghost use Rattle.cl_types.specs.Pages.{page_of};
 ghost use Rattle.flat_model.specs.State.{bytes_of, page_at};
 ghost use Rattle.flat_model.specs.Step.{read, write, written};
 

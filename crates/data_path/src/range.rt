@@ -8,7 +8,7 @@ ghost use Rattle.cl_types.specs.declared.reply.Reply.TheVariants.{Nothing, At};
 ghost use Rattle.cl_types.specs.Places.{Place, is_process};
 ghost use Rattle.page_pool.specs.PoolPages.{free_list, AreZero, IsReady};
 ghost use Rattle.translate_cache.specs.Cached.{entry_of as cached_entry};
-ghost use Rattle.flat_model.specs.Ranges.{is_page_count};
+ghost use Rattle.cl_types.specs.Ranges.{is_page_count};
 ghost use Rattle.flat_model.specs.Step.{alloc, free, is_among};
 
 use crate::store::{PageStore, page_of};

@@ -5,7 +5,7 @@ ghost use Rattle.cl_types.specs.declared.limits.TheConstants.{ADDRESS_END};
 ghost use Rattle.hash_buckets.specs.PageMap.{entry_of};
 ghost use Rattle.page_pool.specs.PoolPages.{IsReady};
 ghost use Rattle.translate_cache.specs.Cached.{entry_of as cached_entry};
-ghost use Rattle.flat_model.specs.Pages.{offset_of, page_of};
+ghost use Rattle.cl_types.specs.Pages.{offset_of, page_of};
 ghost use Rattle.flat_model.specs.Step.{is_out_of_pages};
 
 use crate::need::{Need, is_allowed};

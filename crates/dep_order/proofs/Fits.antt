@@ -5,8 +5,8 @@ use Rattle.cl_types.specs.declared.numbers.Addr.{Addr}
 use Rattle.cl_types.specs.declared.call.Call.TheVariants.{Free}
 use Rattle.cl_types.specs.declared.frame.IssueFault.{IssueFault}
 use Rattle.cl_types.specs.declared.frame.IssueFault.TheVariants.{Empty, TooLong, BadAddress, Misaligned}
-use Rattle.flat_model.specs.Faults.{first_fault}
-use Rattle.flat_model.specs.Issue.{call_faults, as_far_as_told}
+use Rattle.frame_model.specs.Faults.{first_fault}
+use Rattle.client_model.specs.Issue.{call_faults, as_far_as_told}
 use Rattle.dep_order.specs.WaitLists.{AreFit}
 
 -- where there is no fault, no check holds

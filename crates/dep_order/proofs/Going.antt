@@ -2,7 +2,7 @@
 use Rattle.std.proofs.Common.{◌≡◌, ◌≢◌, ℕ, ◌<◌, ◌≤◌, ◌&&◌, ◌||◌, inl, inr, Bool, true, false, ◌==◌, not, nat_lt, leb, List, [], ◌∷◌, find, max, min, Option, Some, None, option_map, refl, sym, ap, subst, ◌∙◌, arith}
 use Rattle.std.specs.List.{list_all, list_any}
 use Rattle.std.proofs.lemmas.Bool.{cases_Bool, and_from, and_parts, and_left, and_right, or_cases, eqb-true, eq-eqb, ne_eqb, ltb-true, not-true, not_from_false, not_from_true, le-leb, lt-leb}
-use Rattle.flat_model.specs.Order.{Footprint, may_go, ready_in, waits_for, collide, share_page, offloads_conflict}
+use Rattle.client_model.specs.Order.{Footprint, may_go, ready_in, waits_for, collide, share_page, offloads_conflict}
 use Rattle.index_lists.specs.NodeLists.{NodeLists, has, list_at, IsIn}
 use Rattle.dep_order.specs.Calls.{number_of}
 use Rattle.dep_order.specs.Rows.{pages_of, print_of}

@@ -2,7 +2,7 @@
 use Rattle.std.proofs.Common.{◌≡◌, ℕ, ◌≤◌, ◌++◌, inl, inr, Bool, true, false, eqb, nat_lt, List, [], ◌∷◌, find, Option, Some, None, refl, sym, ap, subst, ◌∙◌, arith, nat_eq}
 use Rattle.std.specs.List.{AllByRecursion, IsDistinct}
 use Rattle.std.proofs.lemmas.Bool.{or_left, or_right, eq-eqb, ne_eqb, eqb-false, le-ltb, and_left}
-use Rattle.flat_model.specs.Order.{waits_for}
+use Rattle.client_model.specs.Order.{waits_for}
 use Rattle.index_lists.specs.NodeLists.{has, without, after}
 use Rattle.index_lists.proofs.Linking.{split_eq}
 use Rattle.dep_order.specs.declared.row.Row.{Row}

@@ -2,7 +2,7 @@
 use Rattle.std.proofs.Common.{◌≡◌, ℕ, zero, suc, ◌+◌, ◌-◌, ◌<◌, ◌≤◌, inl, inr, true, eqb, ltb, min, max, sym, ◌∙◌, arith}
 use Rattle.std.specs.List.{list_any, range_with_len}
 use Rattle.std.proofs.lemmas.Bool.{cases_Bool, or_cases, or_left, or_right, eqb-true, eq-eqb, ltb-true, ltb-false, false_from_ne_true, cases_eq, cases_lt}
-use Rattle.flat_model.specs.Order.{share_page}
+use Rattle.client_model.specs.Order.{share_page}
 
 -- what is among n numbers from b on lies there
 in_range : (p b n : ℕ) → list_any (λ q. eqb p q) (range_with_len b n) ≡ true → (b ≤ p) × (p < b + n)

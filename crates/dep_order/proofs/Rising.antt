@@ -2,7 +2,7 @@
 use Rattle.std.proofs.Common.{◌≡◌, ℕ, suc, ◌<◌, ◌≤◌, ◌++◌, inl, inr, Bool, true, false, not, nat_lt, leb, List, [], ◌∷◌, map, filter, Some, refl, sym, ap, subst, ◌∙◌, arith, slice_get}
 use Rattle.std.specs.List.{All, AllByRecursion, list_all}
 use Rattle.std.proofs.lemmas.Bool.{cases_Bool, cases_lt, lt-ltb, le-ltb, le-leb, lt-leb, and_from, and_left}
-use Rattle.flat_model.specs.Order.{Footprint}
+use Rattle.client_model.specs.Order.{Footprint}
 use Rattle.index_lists.specs.NodeLists.{has}
 use Rattle.index_lists.proofs.Linking.{split_eq}
 use Rattle.dep_order.specs.Fields.{IsRising}

@@ -2,7 +2,7 @@
 use Rattle.std.specs.Prelude.{◌≡◌, ℕ, ◌+◌, ◌*◌, ◌<◌, List, [], ◌∷◌, length, map}
 use Rattle.std.specs.List.{AllByRecursion}
 use Rattle.cl_types.specs.declared.limits.TheConstants.{HELD_CALLS}
-use Rattle.flat_model.specs.Order.{Footprint}
+use Rattle.client_model.specs.Order.{Footprint}
 use Rattle.index_lists.specs.NodeLists.{NodeLists, list_at, IsIn, IsValid}
 use Rattle.dep_order.specs.declared.row.Row.{Row}
 use Rattle.dep_order.specs.declared.wait_lists.TheConstants.{NODES, LISTS}

@@ -1,7 +1,7 @@
 -- What the rows of an order stand for. No public clause cites this module.
 use Rattle.std.specs.Prelude.{ℕ, ◌-◌, List}
 use Rattle.std.specs.List.{range_with_len}
-use Rattle.flat_model.specs.Order.{Footprint}
+use Rattle.client_model.specs.Order.{Footprint}
 use Rattle.dep_order.specs.declared.row.Pages.{Pages}
 use Rattle.dep_order.specs.declared.row.Row.{Row}
 

@@ -2,7 +2,7 @@
 use Rattle.std.specs.Prelude.{◌≡◌, ℕ, ◌+◌, ◌/◌, ◌%◌, ◌<◌, ◌≤◌, ◌==◌, Bool, true, false, ◌&&◌, nat_lt, List, [], ◌∷◌, ◌++◌, Some, None, slice_index_or}
 use Rattle.std.specs.List.{AllByRecursion}
 use Rattle.cl_types.specs.declared.limits.TheConstants.{HELD_CALLS, RANGE_PAGES, SPACE_PAGES}
-use Rattle.flat_model.specs.Order.{waits_for}
+use Rattle.client_model.specs.Order.{waits_for}
 use Rattle.index_lists.specs.NodeLists.{NodeLists, IsIn}
 use Rattle.dep_order.specs.declared.row.Pages.{Pages}
 use Rattle.dep_order.specs.declared.row.Row.{Row}

@@ -3,9 +3,9 @@
 ghost use Rattle.std.specs.Prelude.{◌≡◌, ◌<◌, ◌==◌, ◌++◌, ◌∷◌, [], not, leb, ◌&&◌, true, false, length, filter, find, option_map, IfOk, None, nat_lt};
 ghost use Rattle.std.specs.List.{All, list_all, list_any, range_with_len};
 ghost use Rattle.index_lists.specs.NodeLists.{IsValid};
-ghost use Rattle.flat_model.specs.Faults.{first_fault};
-ghost use Rattle.flat_model.specs.Issue.{call_faults};
-ghost use Rattle.flat_model.specs.Order.{footprint, may_go, ready_in};
+ghost use Rattle.frame_model.specs.Faults.{first_fault};
+ghost use Rattle.client_model.specs.Issue.{call_faults};
+ghost use Rattle.client_model.specs.Order.{footprint, may_go, ready_in};
 ghost use Rattle.dep_order.specs.Calls.{number_of};
 ghost use Rattle.dep_order.specs.Rows.{print_of};
 ghost use Rattle.dep_order.specs.WaitLists.{AreFit};
@@ -42,7 +42,7 @@ pub struct Order {
 
 impl Model for Order {
     ghost use Rattle.std.specs.Prelude.{List, ℕ};
-    ghost use Rattle.flat_model.specs.Order.{Footprint};
+    ghost use Rattle.client_model.specs.Order.{Footprint};
 
     ghost Value = { List (ℕ × Footprint) };
 

@@ -1,9 +1,9 @@
 //! What an order keeps of a call, and when one call waits for another.
 
 ghost use Rattle.std.specs.Prelude.{◌≡◌, ◌+◌, ◌≤◌, false, None};
-ghost use Rattle.flat_model.specs.Faults.{first_fault};
-ghost use Rattle.flat_model.specs.Issue.{call_faults};
-ghost use Rattle.flat_model.specs.Order.{footprint, share_page, offloads_conflict, waits_for, collide as collide_of, pages_over as pages_over_of};
+ghost use Rattle.frame_model.specs.Faults.{first_fault};
+ghost use Rattle.client_model.specs.Issue.{call_faults};
+ghost use Rattle.client_model.specs.Order.{footprint, share_page, offloads_conflict, waits_for, collide as collide_of, pages_over as pages_over_of};
 ghost use Rattle.dep_order.specs.Rows.{pages_of, print_of};
 ghost use Rattle.dep_order.specs.WaitLists.{AreFit};
 

@@ -1,8 +1,8 @@
 //! Values from outside, and each call once.
 
 ghost use Rattle.std.specs.Prelude.{◌≡◌, ◌+◌, ◌%◌, ◌<◌, ◌≤◌, [], None, IfOk};
-ghost use Rattle.flat_model.specs.Faults.{first_fault};
-ghost use Rattle.flat_model.specs.Issue.{call_faults};
+ghost use Rattle.frame_model.specs.Faults.{first_fault};
+ghost use Rattle.client_model.specs.Issue.{call_faults};
 
 use crate::Order;
 use cl_types::call::{AtomicOp, Call};

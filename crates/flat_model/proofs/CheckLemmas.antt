@@ -5,7 +5,7 @@ use Rattle.std.proofs.lemmas.Option.{slice_get_within}
 use Rattle.std.proofs.lemmas.Result.{IfOk-weaker}
 use Rattle.cl_types.specs.declared.items.NoMemory.{NoMemory}
 use Rattle.cl_types.specs.declared.request.Request.{Request}
-use Rattle.flat_model.specs.Ranges.{is_in_range}
+use Rattle.cl_types.specs.Ranges.{is_in_range}
 use Rattle.cl_types.specs.Places.{Place}
 use Rattle.cl_types.specs.declared.call.AtomicOp.{AtomicOp}
 use Rattle.cl_types.specs.declared.call.Perm.{Perm}
@@ -13,7 +13,7 @@ use Rattle.cl_types.specs.declared.numbers.Addr.{Addr}
 use Rattle.cl_types.specs.declared.reply.Refusal.{Refusal}
 use Rattle.cl_types.specs.declared.reply.Reply.{Reply}
 use Rattle.cl_types.specs.declared.reply.Reply.TheVariants.{Refused, Nothing, Word}
-use Rattle.flat_model.specs.Pages.{page_of, offset_of, word_at, word_after}
+use Rattle.cl_types.specs.Pages.{page_of, offset_of, word_at, word_after}
 use Rattle.flat_model.specs.Rows.{put_bytes, with_changed, with_put}
 use Rattle.flat_model.specs.Checks.{Opens, Checks}
 use Rattle.flat_model.specs.Run.{MayStep}

@@ -5,7 +5,7 @@ use Rattle.cl_types.specs.declared.numbers.Addr.{Addr}
 use Rattle.cl_types.specs.declared.reply.Refusal.{Refusal}
 use Rattle.cl_types.specs.declared.reply.Reply.TheVariants.{Nothing}
 use Rattle.flat_model.specs.Checks.{Opens}
-use Rattle.flat_model.specs.Pages.{offset_of}
+use Rattle.cl_types.specs.Pages.{offset_of}
 use Rattle.flat_model.specs.Rows.{put_bytes}
 use Rattle.flat_model.specs.State.{FlatState, fits, least}
 use Rattle.flat_model.specs.Step.{may_write, puts, refused, write}

@@ -4,7 +4,7 @@ use Rattle.std.specs.List.{list_all}
 use Rattle.std.proofs.lemmas.Bool.Decides.{nat_tests}
 use Rattle.std.proofs.lemmas.List.{length-replicate}
 use Rattle.std.specs.Int.{from_le_bytes, w64}
-use Rattle.flat_model.specs.Pages.{word_at}
+use Rattle.cl_types.specs.Pages.{word_at}
 use Rattle.cl_types.specs.Bytes.{zeros, bytes_at, fresh_bytes}
 
 piece : (m at n : ℕ) → at + n ≤ m → bytes_at at n (replicate m 0) ≡ replicate n 0

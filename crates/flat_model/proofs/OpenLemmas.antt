@@ -4,7 +4,7 @@ use Rattle.std.specs.List.{position}
 use Rattle.cl_types.specs.Places.{Place, place_cmp}
 use Rattle.cl_types.specs.declared.numbers.Addr.{Addr}
 use Rattle.cl_types.specs.declared.reply.Refusal.TheVariants.{NoMapping, NoPermission, NoPage}
-use Rattle.flat_model.specs.Pages.{page_of}
+use Rattle.cl_types.specs.Pages.{page_of}
 use Rattle.flat_model.specs.Rows.{is_at, allows}
 use Rattle.flat_model.specs.Checks.{Opens}
 use Rattle.flat_model.specs.declared.need.Need.{Need}

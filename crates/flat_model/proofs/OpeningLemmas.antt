@@ -13,7 +13,7 @@ use Rattle.cl_types.specs.declared.config.Field.TheVariants as field
 use Rattle.cl_types.specs.declared.config.NodeConfig.{NodeConfig}
 use Rattle.cl_types.specs.declared.config.OffloadConfig.{OffloadConfig}
 use Rattle.cl_types.specs.declared.config.OffloadConfig.TheVariants.{Kv}
-use Rattle.flat_model.specs.declared.open_fault.OpenFault.TheVariants.{NoRoom}
+use Rattle.cl_types.specs.declared.open_fault.OpenFault.TheVariants.{NoRoom}
 use Rattle.flat_model.specs.Opening.{held_by, has_room, first_without_room, pages_at, room_fault}
 use Rattle.flat_model.specs.State.{held_from, places_of}
 use Rattle.flat_model.specs.Rows.{AreFourAtMost, has_room_among}

@@ -6,7 +6,7 @@ use Rattle.cl_types.specs.declared.reply.Refusal.{Refusal}
 use Rattle.cl_types.specs.declared.reply.Reply.{Reply}
 use Rattle.cl_types.specs.declared.reply.Reply.TheVariants.{Refused, Got}
 use Rattle.flat_model.specs.Objects.{Object, KvObject, Pairs, Given, object_step}
-use Rattle.flat_model.specs.Pages.{page_of}
+use Rattle.cl_types.specs.Pages.{page_of}
 use Rattle.flat_model.specs.State.{FlatState, Page}
 use Rattle.flat_model.specs.Step.{Outcome, on_bytes, refused}
 

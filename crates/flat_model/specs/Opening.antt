@@ -7,8 +7,8 @@ use Rattle.cl_types.specs.Places.{Place, homes_at}
 use Rattle.cl_types.specs.declared.config.Field.{Field}
 use Rattle.cl_types.specs.declared.config.NodeConfig.{NodeConfig}
 use Rattle.cl_types.specs.declared.config.OffloadConfig.{OffloadConfig}
-use Rattle.flat_model.specs.declared.open_fault.OpenFault.{OpenFault}
-use Rattle.flat_model.specs.declared.open_fault.OpenFault.TheVariants.{BadConfig, NoRoom}
+use Rattle.cl_types.specs.declared.open_fault.OpenFault.{OpenFault}
+use Rattle.cl_types.specs.declared.open_fault.OpenFault.TheVariants.{BadConfig, NoRoom}
 use Rattle.flat_model.specs.State.{held_from}
 
 -- the pages of the first k offloads

@@ -7,7 +7,7 @@ use Rattle.cl_types.specs.declared.reply.Reply.{Reply}
 use Rattle.cl_types.specs.declared.request.Request.{Request}
 use Rattle.flat_model.specs.State.{FlatState, opening}
 use Rattle.flat_model.specs.Step.{MayReply, state_after}
-use Rattle.flat_model.specs.Ranges.{is_in_range}
+use Rattle.cl_types.specs.Ranges.{is_in_range}
 
 -- one step: the request is in its ranges, the reply is one that may be given, and new is the state after it
 pub record Step (s : FlatState) (pid : ℕ) (request : Request) (reply : Reply) (new : FlatState) : Type 0 where

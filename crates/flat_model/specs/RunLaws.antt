@@ -1,16 +1,12 @@
--- Laws of steps, runs and histories, each proved by a function of src/run_laws.rt.
+-- Laws of steps and runs, each proved by a function of src/run_laws.rt.
 use Rattle.std.specs.Prelude.{ℕ, ◌≡◌, ◌↔◌, false, List, ◌++◌}
 use Rattle.cl_types.specs.Requests.{is_changing}
-use Rattle.cl_types.specs.declared.config.Config.{Config}
 use Rattle.cl_types.specs.declared.line.Entry.{Entry}
 use Rattle.cl_types.specs.declared.reply.Reply.{Reply}
 use Rattle.cl_types.specs.declared.request.Request.{Request}
-use Rattle.cl_types.specs.declared.schedule.Event.{Event}
 use Rattle.flat_model.specs.State.{FlatState}
 use Rattle.flat_model.specs.Step.{state_after}
 use Rattle.flat_model.specs.Run.{Step, IsRunFrom, after, changing_of}
-use Rattle.flat_model.specs.Events.{account, account_of_latest}
-use Rattle.flat_model.specs.Properties.{IsInOrder}
 
 -- a request, a state and a reply fix the state after the step
 abbrev pub StateAfterIsFixed : Type 0
@@ -31,9 +27,3 @@ ChangingEntriesSuffice = (s : FlatState) (history : List Entry) → after s (cha
 abbrev pub RunsSplit : Type 0
 RunsSplit =
     (s : FlatState) (front back : List Entry) → IsRunFrom s (front ++ back) ↔ (IsRunFrom s front × IsRunFrom (after s front) back)
-
--- the history of every account stands in the order of line and position, with all records and with the latest
-abbrev pub HistoriesAreInOrder : Type 0
-HistoriesAreInOrder =
-    (config : Config) (events : List (ℕ × Event))
-    → IsInOrder (account config events).history × IsInOrder (account_of_latest config events).history

@@ -16,7 +16,7 @@ use Rattle.cl_types.specs.declared.reply.Refusal.{Refusal}
 use Rattle.cl_types.specs.declared.reply.Refusal.TheVariants.{NoMapping, NoPermission, NoPage, NoRange, NoOffload}
 use Rattle.cl_types.specs.declared.reply.Reply.{Reply}
 use Rattle.cl_types.specs.declared.reply.Reply.TheVariants.{Refused, Nothing, At, Word, Got}
-use Rattle.flat_model.specs.Pages.{page_of, offset_of, word_at, word_after}
+use Rattle.cl_types.specs.Pages.{page_of, offset_of, word_at, word_after}
 use Rattle.flat_model.specs.Objects.{Object, Given, object_step}
 use Rattle.flat_model.specs.State.{FlatState, Page, page_at, bytes_of, used, fits, least, places, places_of}
 

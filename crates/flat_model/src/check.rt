@@ -2,11 +2,10 @@
 
 ghost use Rattle.std.specs.Prelude.{◌≡◌, ◌+◌, ◌%◌, ◌≤◌, ◌<◌, ◌↔◌, IfOk, OnErr, IsTrue, false, if◌then◌else◌, length};
 ghost use Rattle.cl_types.specs.Bytes.{bytes_at};
-ghost use Rattle.flat_model.specs.Pages.{offset_of};
-ghost use Rattle.flat_model.specs.Ranges.{is_in_range};
+ghost use Rattle.cl_types.specs.Pages.{offset_of, word_after};
+ghost use Rattle.cl_types.specs.Ranges.{is_in_range};
 ghost use Rattle.flat_model.specs.State.{bytes_of};
 ghost use Rattle.flat_model.specs.Step.{MayAlloc, MayReply, alloc_after, atomic, free, read, state_after, write};
-ghost use Rattle.flat_model.specs.Pages.{word_after};
 ghost use Rattle.flat_model.specs.Checks.{Checks};
 ghost use Rattle.flat_model.specs.Run.{MayStep, Step};
 
@@ -185,7 +184,7 @@ fn check_alloc(
 }
 
 // Whether the machine may give this reply, and its step if it may.
-#[tactic(auto, using(crate::proofs::CheckLemmas::read_keeps, crate::proofs::RangeLemmas::word_within))]
+#[tactic(auto, using(crate::proofs::CheckLemmas::read_keeps, cl_types::proofs::RangeLemmas::word_within))]
 fn check_reply(
     alloc: Global,
     flat: &mut Flat,

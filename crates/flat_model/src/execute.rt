@@ -2,7 +2,7 @@
 
 ghost use Rattle.std.specs.Prelude.{◌≡◌, ◌+◌, ◌<◌, ◌≤◌, IfOk, OnOk, OnErr, length, option_map};
 ghost use Rattle.cl_types.specs.Bytes.{bytes_at};
-ghost use Rattle.flat_model.specs.Pages.{offset_of, page_of};
+ghost use Rattle.cl_types.specs.Pages.{offset_of, page_of};
 ghost use Rattle.flat_model.specs.State.{bytes_of, page_at};
 ghost use Rattle.flat_model.specs.Step.{alloc, read, write};
 

@@ -2,7 +2,7 @@
 
 ghost use Rattle.std.specs.Prelude.{◌≡◌, ◌<◌, Some, IsTrue, [], count_by, is_some, leb, length, option_map, position, slice_get};
 ghost use Rattle.std.specs.Option.{option_copied};
-ghost use Rattle.flat_model.specs.Pages.{page_of};
+ghost use Rattle.cl_types.specs.Pages.{page_of};
 ghost use Rattle.flat_model.specs.Rows.{AreFourAtMost, allows, is_at};
 ghost use Rattle.flat_model.specs.Checks.{Opens};
 ghost use Rattle.cl_types.specs.Places.{is_bucket_count};

@@ -7,24 +7,13 @@ ghost use Rattle.flat_model.specs.Opening.{open_fault};
 ghost use Rattle.flat_model.specs.State.{held_from, opening, places_of};
 
 use crate::flat::Flat;
-use crate::open_fault::OpenFault;
 use crate::room::{bucket_count, offload_count, offload_without_room, page_count, space_of};
 use crate::rows::Place;
 use crate::store::KvStore;
 use cl_types::config::{NodeConfig, OffloadConfig, bad_number};
 use cl_types::items::NoMemory;
+use cl_types::open_fault::OpenFault;
 use std::alloc::Global;
-
-impl From<NoMemory> for OpenFault {
-    ghost use Rattle.std.specs.Prelude.{◌≡◌};
-    ghost use Rattle.flat_model.specs.declared.open_fault.OpenFault.TheVariants.{NoMemory};
-
-    ghost from_gives = { λ _ fault. fault ≡ NoMemory };
-
-    fn from(_error: NoMemory) -> Self {
-        OpenFault::NoMemory
-    }
-}
 
 fn add_pages(held: &mut Vec<Place>, space: u16, pages: u16) -> Result<(), NoMemory>
     requires { pages < 65535 }

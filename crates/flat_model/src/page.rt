@@ -4,7 +4,7 @@ ghost use Rattle.std.specs.Prelude.{◌≡◌, ◌+◌, ◌≤◌, ◌==◌, ◌
 ghost use Rattle.std.specs.List.{list_all};
 ghost use Rattle.cl_types.specs.Bytes.{bytes_at, fresh_bytes, with_bytes, zeros};
 ghost use Rattle.std.specs.Int.{from_le_bytes, w64};
-ghost use Rattle.flat_model.specs.Pages.{word_at};
+ghost use Rattle.cl_types.specs.Pages.{word_at};
 ghost use Rattle.flat_model.specs.Rows.{with_put};
 ghost use Rattle.flat_model.specs.State.{bytes_of};
 

@@ -1,7 +1,7 @@
 //! Whether a request is in its ranges.
 
 ghost use Rattle.std.specs.Prelude.{◌≡◌, ◌&&◌, length};
-ghost use Rattle.flat_model.specs.Ranges.{are_bytes, is_good_address, is_in_range, is_page_count, is_piece};
+ghost use Rattle.cl_types.specs.Ranges.{are_bytes, is_good_address, is_in_range, is_page_count, is_piece};
 
 use cl_types::call::AtomicOp;
 use cl_types::limits::{ADDRESS_END, PAGE_BYTES, PART_BYTES, RANGE_PAGES, SPACE_PAGES};
@@ -24,7 +24,7 @@ fn is_one_piece(addr: Addr, n: usize) -> bool
 }
 
 // Bytes of a slice are bytes.
-#[tactic(auto, using(crate::proofs::RangeLemmas::all_bytes))]
+#[tactic(auto, using(cl_types::proofs::RangeLemmas::all_bytes))]
 fn is_good_write(addr: Addr, bytes: &[u8]) -> bool
     ensures { result ≡ (is_piece addr (length bytes.now) && are_bytes bytes.now) }
 {
@@ -52,7 +52,7 @@ fn is_good_word(addr: Addr, op: AtomicOp) -> bool
     is_good(addr) && addr.0 % 8 == 0
 }
 
-#[tactic(auto, using(crate::proofs::RangeLemmas::all_bytes))]
+#[tactic(auto, using(cl_types::proofs::RangeLemmas::all_bytes))]
 fn is_good_operation(no: u8, op: u8, out: u16, bytes: &[u8]) -> bool
     ensures { result ≡ is_in_range (Request.Offload no op out bytes.now) }
 {

@@ -9,11 +9,11 @@ ghost use Rattle.flat_model.specs.Rows.{AreFourAtMost, has_room_among};
 ghost use Rattle.flat_model.specs.State.{held_from, places_of};
 
 use crate::buckets::{home_at, pages_at};
-use crate::open_fault::OpenFault;
 use crate::rows::Place;
 use cl_types::config::{NodeConfig, pages_of};
 use cl_types::limits::BUCKET_PAGES;
 use cl_types::numbers::LAST_PID;
+use cl_types::open_fault::OpenFault;
 
 /// How many offloads a node has.
 #[tactic(auto, using(crate::proofs::OpeningLemmas::few_offloads))]

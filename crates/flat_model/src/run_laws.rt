@@ -1,6 +1,6 @@
-//! Laws of steps, runs and histories: functions that do nothing, each with a law as its contract.
+//! Laws of steps and runs: functions that do nothing, each with a law as its contract.
 
-ghost use Rattle.flat_model.specs.RunLaws.{StateAfterIsFixed, ReadingChangesNothing, ChangingEntriesSuffice, RunsSplit, HistoriesAreInOrder};
+ghost use Rattle.flat_model.specs.RunLaws.{StateAfterIsFixed, ReadingChangesNothing, ChangingEntriesSuffice, RunsSplit};
 
 /// A request, a state and a reply fix the state after the step.
 #[tactic(auto, using(crate::proofs::RunLemmas::state_after_is_fixed))]
@@ -24,9 +24,4 @@ pub fn changing_entries_suffice()
 #[tactic(auto, using(crate::proofs::RunLemmas::runs_split))]
 pub fn runs_split()
     ensures { RunsSplit }
-{}
-
-/// The history of every account stands in the order of line and position.
-pub fn histories_are_in_order()
-    ensures { HistoriesAreInOrder }
 {}

@@ -3,12 +3,12 @@
 use crate::check::check_step;
 use crate::execute::{allocate, read_bytes, show_bytes, write_bytes};
 use crate::flat::Flat;
-use crate::open_fault::OpenFault;
 use crate::opening::create;
 use cl_types::call::{AtomicOp, Perm};
 use cl_types::config::{Field, NodeConfig, OffloadConfig, OffloadList};
 use cl_types::items::{Bytes, NoMemory};
 use cl_types::numbers::{Addr, Pid, try_pid};
+use cl_types::open_fault::OpenFault;
 use cl_types::reply::{Refusal, Reply};
 use cl_types::request::Request;
 use std::alloc::Global;

@@ -6,7 +6,7 @@ use Rattle.std.proofs.lemmas.Nat.{div-mul-add}
 use Rattle.std.proofs.lemmas.Bool.{and_parts, ltb-true}
 use Rattle.byteorder.specs.Endian.{big_number, big_from}
 use Rattle.byteorder.specs.Numbers.{big_from-cons, big_from-lt}
-use Rattle.flat_model.proofs.ByteLemmas.{small}
+use Rattle.frame_model.proofs.ByteLemmas.{small}
 use Rattle.frame_codec.specs.Laws.{BytesAreThoseOfTheirNumber}
 
 byte_at-power : (k n : ℕ) → byte_at k n ≡ n / 256 ^ k % 256

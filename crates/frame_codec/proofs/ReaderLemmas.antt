@@ -14,15 +14,15 @@ use Rattle.cl_types.specs.declared.frame.Head.{Head}
 use Rattle.cl_types.specs.declared.request.Request.{Request}
 use Rattle.cl_types.specs.declared.reply.Reply.{Reply}
 use Rattle.cl_types.specs.Kinds.{kind_number}
-use Rattle.flat_model.specs.Faults.{first_fault}
-use Rattle.flat_model.specs.Ranges.{are_bytes}
-use Rattle.flat_model.specs.Frames.{Checks, SpellsRequest, SpellsReply, body_len, header_checks, head_in, request_checks, request_fault, request_in_body, reply_checks, reply_fault, reply_in, reply_in_body}
-use Rattle.flat_model.specs.FrameLaws.{ReadsAsRequest, ReadsAsReply}
-use Rattle.flat_model.proofs.FrameLemmas.{one_kind}
-use Rattle.flat_model.proofs.RequestFrameLemmas.{requests_are_read_again, bytes_spell_one_request}
-use Rattle.flat_model.proofs.ReplyFrameLemmas.{replies_are_read_again, bytes_spell_one_reply}
-use Rattle.flat_model.proofs.FaultlessRequestLemmas.{faultless_requests_are_spelled}
-use Rattle.flat_model.proofs.FaultlessReplyLemmas.{faultless_replies_are_spelled}
+use Rattle.frame_model.specs.Faults.{first_fault}
+use Rattle.cl_types.specs.Ranges.{are_bytes}
+use Rattle.frame_model.specs.Frames.{Checks, SpellsRequest, SpellsReply, body_len, header_checks, head_in, request_checks, request_fault, request_in_body, reply_checks, reply_fault, reply_in, reply_in_body}
+use Rattle.frame_model.specs.FrameLaws.{ReadsAsRequest, ReadsAsReply}
+use Rattle.frame_model.proofs.FrameLemmas.{one_kind}
+use Rattle.frame_model.proofs.RequestFrameLemmas.{requests_are_read_again, bytes_spell_one_request}
+use Rattle.frame_model.proofs.ReplyFrameLemmas.{replies_are_read_again, bytes_spell_one_reply}
+use Rattle.frame_model.proofs.FaultlessRequestLemmas.{faultless_requests_are_spelled}
+use Rattle.frame_model.proofs.FaultlessReplyLemmas.{faultless_replies_are_spelled}
 use Rattle.frame_codec.specs.Parts.{IsHeaderOf}
 use Rattle.frame_codec.specs.Reading.{GivesSpelledRequest, GivesSpelledReply}
 use Rattle.frame_codec.specs.declared.headers.Header.{Header}

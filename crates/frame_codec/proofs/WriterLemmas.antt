@@ -7,10 +7,10 @@ use Rattle.cl_types.specs.Bytes.{bytes_at, with_bytes}
 use Rattle.cl_types.specs.declared.call.Kind.{Kind}
 use Rattle.cl_types.specs.declared.call.Kind.TheVariants as kind
 use Rattle.cl_types.specs.declared.frame.Head.{Head}
-use Rattle.flat_model.specs.Frames.{SpellsRequest, SpellsReply, frame_of}
-use Rattle.flat_model.proofs.FrameLemmas.{length-frame}
-use Rattle.flat_model.proofs.RequestFrameLemmas.{requests_are_read_again}
-use Rattle.flat_model.proofs.ReplyFrameLemmas.{replies_are_read_again}
+use Rattle.frame_model.specs.Frames.{SpellsRequest, SpellsReply, frame_of}
+use Rattle.frame_model.proofs.FrameLemmas.{length-frame}
+use Rattle.frame_model.proofs.RequestFrameLemmas.{requests_are_read_again}
+use Rattle.frame_model.proofs.ReplyFrameLemmas.{replies_are_read_again}
 use Rattle.frame_codec.specs.Laws.{WrittenRequestsAreReadAgain, WrittenRepliesAreReadAgain}
 use Rattle.frame_codec.specs.Parts.{header_of}
 use Rattle.frame_codec.specs.Writing.{IsWritten, may_carry}

@@ -5,9 +5,9 @@ use Rattle.cl_types.specs.declared.call.Kind.{Kind}
 use Rattle.cl_types.specs.declared.frame.Head.{Head}
 use Rattle.cl_types.specs.declared.request.Request.{Request}
 use Rattle.cl_types.specs.declared.reply.Reply.{Reply}
-use Rattle.flat_model.specs.Ranges.{are_bytes, is_in_range}
-use Rattle.flat_model.specs.Frames.{IsHead, is_reply_of, request_frame, reply_frame}
-use Rattle.flat_model.specs.FrameLaws.{ReadsAsRequest, ReadsAsReply}
+use Rattle.cl_types.specs.Ranges.{are_bytes, is_in_range}
+use Rattle.frame_model.specs.Frames.{IsHead, is_reply_of, request_frame, reply_frame}
+use Rattle.frame_model.specs.FrameLaws.{ReadsAsRequest, ReadsAsReply}
 use Rattle.frame_codec.specs.Writing.{IsWritten}
 
 -- bytes are those that `byteorder` writes for the number that it reads in them, the highest first

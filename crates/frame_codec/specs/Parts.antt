@@ -7,8 +7,8 @@ use Rattle.cl_types.specs.declared.frame.FieldName.TheVariants as name
 use Rattle.cl_types.specs.declared.numbers.TheConstants.{LAST_PID}
 use Rattle.cl_types.specs.Config.{is_within}
 use Rattle.cl_types.specs.Kinds.{kind_number}
-use Rattle.flat_model.specs.Faults.{first_fault}
-use Rattle.flat_model.specs.Frames.{Checks, body_len, field, head_in, header_checks, number_16, number_64, reply_value, status_in}
+use Rattle.frame_model.specs.Faults.{first_fault}
+use Rattle.frame_model.specs.Frames.{Checks, body_len, field, head_in, header_checks, number_16, number_64, reply_value, status_in}
 use Rattle.frame_codec.specs.declared.headers.Header.{Header}
 
 -- the checks of a head, which are the last of a header

@@ -6,7 +6,7 @@ use Rattle.cl_types.specs.declared.frame.Head.{Head}
 use Rattle.cl_types.specs.declared.request.Request.{Request}
 use Rattle.cl_types.specs.declared.reply.Reply.{Reply}
 use Rattle.cl_types.specs.Requests.{request_of, reply_of}
-use Rattle.flat_model.specs.Frames.{SpellsRequest, SpellsReply}
+use Rattle.frame_model.specs.Frames.{SpellsRequest, SpellsReply}
 use Rattle.frame_codec.specs.declared.views.RequestView.{RequestView}
 use Rattle.frame_codec.specs.declared.views.ReplyView.{ReplyView}
 

@@ -4,8 +4,8 @@ ghost use Rattle.std.specs.Prelude.{◌≡◌, ◌+◌, ◌≤◌, ◌++◌, dro
 ghost use Rattle.std.specs.Result.{result_err};
 ghost use Rattle.cl_types.specs.Config.{is_within};
 ghost use Rattle.cl_types.specs.Kinds.{kind_number};
-ghost use Rattle.flat_model.specs.Faults.{first_fault};
-ghost use Rattle.flat_model.specs.Frames.{head_in, header_checks};
+ghost use Rattle.frame_model.specs.Faults.{first_fault};
+ghost use Rattle.frame_model.specs.Frames.{head_in, header_checks};
 ghost use Rattle.frame_codec.specs.Parts.{IsHeaderOf, head_checks, header_of};
 
 use crate::places::{put_u16, put_u64, u16_at, u64_at};

@@ -3,7 +3,7 @@
 ghost use Rattle.std.specs.Prelude.{◌≡◌, ◌+◌, ◌≤◌, length};
 ghost use Rattle.std.specs.Int.{to_be_bytes, w16, w32, w64};
 ghost use Rattle.cl_types.specs.Bytes.{with_bytes};
-ghost use Rattle.flat_model.specs.Frames.{number_16, number_32, number_64};
+ghost use Rattle.frame_model.specs.Frames.{number_16, number_32, number_64};
 
 use byteorder::{BigEndian, ByteOrder};
 

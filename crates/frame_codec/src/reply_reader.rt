@@ -6,9 +6,9 @@ ghost use Rattle.cl_types.specs.declared.reply.Reply.TheVariants as owned;
 ghost use Rattle.cl_types.specs.Config.{is_within};
 ghost use Rattle.cl_types.specs.Requests.{reply_of};
 ghost use Rattle.cl_types.specs.Kinds.{kind_number};
-ghost use Rattle.flat_model.specs.Faults.{first_fault};
-ghost use Rattle.flat_model.specs.FrameLaws.{ReadsAsReply};
-ghost use Rattle.flat_model.specs.Frames.{SpellsReply, field, number_64, ok_checks, refusal_in, reply_checks, reply_fault, reply_in_body};
+ghost use Rattle.frame_model.specs.Faults.{first_fault};
+ghost use Rattle.frame_model.specs.FrameLaws.{ReadsAsReply};
+ghost use Rattle.frame_model.specs.Frames.{SpellsReply, field, number_64, ok_checks, refusal_in, reply_checks, reply_fault, reply_in_body};
 ghost use Rattle.frame_codec.specs.Reading.{GivesSpelledReply};
 
 use crate::headers::{HEADER_BYTES, REPLY, read_header};

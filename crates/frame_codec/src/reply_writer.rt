@@ -6,7 +6,7 @@ ghost use Rattle.cl_types.specs.Kinds.{kind_number};
 ghost use Rattle.cl_types.specs.Requests.{reply_of};
 ghost use Rattle.cl_types.specs.SmallReplies.{value_of};
 ghost use Rattle.cl_types.specs.declared.reply.Reply.TheVariants as owned;
-ghost use Rattle.flat_model.specs.Frames.{IsHead, frame_of, is_reply_of, reply_frame, reply_value, status_of};
+ghost use Rattle.frame_model.specs.Frames.{IsHead, frame_of, is_reply_of, reply_frame, reply_value, status_of};
 ghost use Rattle.frame_codec.specs.Parts.{reply_body};
 ghost use Rattle.frame_codec.specs.Writing.{IsWritten, may_carry};
 

@@ -6,9 +6,9 @@ ghost use Rattle.std.specs.Result.{result_err};
 ghost use Rattle.cl_types.specs.Config.{is_within};
 ghost use Rattle.cl_types.specs.Requests.{request_of};
 ghost use Rattle.cl_types.specs.Kinds.{kind_number};
-ghost use Rattle.flat_model.specs.Faults.{first_fault};
-ghost use Rattle.flat_model.specs.FrameLaws.{ReadsAsRequest};
-ghost use Rattle.flat_model.specs.Frames.{SpellsRequest, alloc_checks, atomic_checks, free_checks, is_op, offload_checks, op_in, perm_in, read_checks, request_checks, request_fault, request_in_body, write_checks};
+ghost use Rattle.frame_model.specs.Faults.{first_fault};
+ghost use Rattle.frame_model.specs.FrameLaws.{ReadsAsRequest};
+ghost use Rattle.frame_model.specs.Frames.{SpellsRequest, alloc_checks, atomic_checks, free_checks, is_op, offload_checks, op_in, perm_in, read_checks, request_checks, request_fault, request_in_body, write_checks};
 ghost use Rattle.frame_codec.specs.Reading.{GivesSpelledRequest};
 
 use crate::headers::{HEADER_BYTES, read_header};

@@ -3,8 +3,8 @@
 ghost use Rattle.std.specs.Prelude.{◌≡◌, ◌+◌, ◌≤◌, ◌++◌, drop, length, take, IsTrue};
 ghost use Rattle.cl_types.specs.Requests.{request_of};
 ghost use Rattle.cl_types.specs.declared.request.Request.TheVariants as owned;
-ghost use Rattle.flat_model.specs.Frames.{IsHead, kind_of, op_spelling, perm_number, request_body, request_frame};
-ghost use Rattle.flat_model.specs.Ranges.{is_in_range};
+ghost use Rattle.frame_model.specs.Frames.{IsHead, kind_of, op_spelling, perm_number, request_body, request_frame};
+ghost use Rattle.cl_types.specs.Ranges.{is_in_range};
 ghost use Rattle.frame_codec.specs.Writing.{IsWritten};
 
 use crate::headers::{HEADER_BYTES, write_header};

@@ -1,4 +1,3 @@
-pub mod Pieces
 pub mod LinkLemmas
 pub mod PairLemmas
 pub mod PlaceLemmas

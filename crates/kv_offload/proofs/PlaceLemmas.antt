@@ -8,7 +8,7 @@ use Rattle.cl_types.specs.Spaces.{IsInOnePage}
 use Rattle.kv_offload.specs.declared.layout.TheConstants.{HEADS}
 use Rattle.kv_offload.specs.Layout.{slot_place, link_place}
 use Rattle.kv_offload.specs.Stored.{HasPages}
-use Rattle.kv_offload.proofs.Pieces.{length_with, piece_kept_before, piece_kept_behind}
+use Rattle.lemmas.proofs.Pieces.{length_with, piece_kept_before, piece_kept_behind}
 
 -- ---- places
 -- a slot lies behind the first page

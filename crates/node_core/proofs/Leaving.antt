@@ -14,7 +14,7 @@ use Rattle.data_path.specs.declared.store.PageStore.{PageStore}
 use Rattle.data_path.specs.Spaces.{bytes_or_none, contents_of}
 use Rattle.data_path.specs.Store.{memory_of}
 use Rattle.data_path.proofs.Offloads.{is_offload as offload_space}
-use Rattle.flat_model.specs.Pages.{page_of}
+use Rattle.cl_types.specs.Pages.{page_of}
 use Rattle.flat_model.specs.State.{FlatState, Page, least, page_at, places, places_of}
 use Rattle.flat_model.specs.Step.{Outcome, alloc_at, free_if, if_allowed, if_pages_last, is_among, is_out_of_pages, is_range, may_change, may_read, may_write, on_bytes, on_found, outcome, with_fresh, written}
 use Rattle.node_core.specs.Placed.{is_offload}

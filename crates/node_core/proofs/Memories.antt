@@ -24,11 +24,11 @@ use Rattle.data_path.proofs.Pages.{find-pages_in, sorted_pages}
 use Rattle.flat_model.proofs.BucketLemmas.{first_of_both, second_of_both}
 use Rattle.flat_model.proofs.ExecuteLemmas.{start_fits, start_small}
 use Rattle.flat_model.proofs.LeastLemmas.{fits_within}
-use Rattle.flat_model.specs.Frames.{is_range_start}
+use Rattle.frame_model.specs.Frames.{is_range_start}
 use Rattle.flat_model.specs.Objects.{Object}
 use Rattle.flat_model.specs.State.{FlatState, Page, least, page_at, places, used}
 use Rattle.flat_model.specs.Step.{alloc, alloc_at, on_object, outcome, refused}
-use Rattle.flat_model.specs.Ranges.{is_page_count}
+use Rattle.cl_types.specs.Ranges.{is_page_count}
 use Rattle.hash_buckets.specs.PageMap.{entry_of}
 use Rattle.page_pool.specs.PoolPages.{free_pages}
 use Rattle.node_core.specs.Parted.{IsMemory, flat_outcome}

@@ -3,7 +3,7 @@ use Rattle.std.proofs.Common.{◌≡◌, Option, Some, None, Result, Ok, Err, Ma
 use Rattle.cl_types.specs.declared.config.NodeConfig.{NodeConfig}
 use Rattle.data_path.proofs.Judging.{no_bad_number}
 use Rattle.flat_model.proofs.OpeningLemmas.{good}
-use Rattle.flat_model.specs.declared.open_fault.OpenFault.{OpenFault}
+use Rattle.cl_types.specs.declared.open_fault.OpenFault.{OpenFault}
 use Rattle.flat_model.specs.Opening.{open_fault}
 use Rattle.offload_host.specs.Held.{AreOffloads}
 

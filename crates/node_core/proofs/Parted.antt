@@ -16,7 +16,7 @@ use Rattle.cl_types.specs.Places.{Place, place_cmp, home_of, homes_at, is_proces
 use Rattle.cl_types.proofs.PlaceLemmas.{same_place-self, split_place}
 use Rattle.flat_model.proofs.BucketLemmas.{first_of_both, second_of_both}
 use Rattle.flat_model.specs.Objects.{Object}
-use Rattle.flat_model.specs.Pages.{page_of}
+use Rattle.cl_types.specs.Pages.{page_of}
 use Rattle.flat_model.specs.Rows.{keys}
 use Rattle.flat_model.specs.State.{FlatState, Page, fits, is_mapped, least, least_from, page_at, places, places_of, used}
 use Rattle.flat_model.specs.Step.{Outcome, alloc, alloc_at, atomic, free, free_if, has_pages, if_allowed, if_pages_last, is_among, is_out_of_pages, is_range, mapped, may_change, may_read, may_write, on_bytes, on_found, on_page, puts, read, unmapped, with_fresh, write, written}

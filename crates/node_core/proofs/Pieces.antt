@@ -7,7 +7,7 @@ use Rattle.std.proofs.lemmas.Grind.{common_steps}
 use Rattle.cl_types.specs.Bytes.{bytes_at}
 use Rattle.cl_types.specs.declared.numbers.Addr.{Addr}
 use Rattle.data_path.specs.Access.{IsPiece}
-use Rattle.flat_model.specs.Ranges.{is_piece}
+use Rattle.cl_types.specs.Ranges.{is_piece}
 
 take_front : (a b : List ℕ) → take (length a) (a ++ b) ≡ a
 take_front a b = grind (arith, common_steps)

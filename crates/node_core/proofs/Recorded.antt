@@ -7,9 +7,9 @@ use Rattle.std.proofs.lemmas.List.{length-map, drop-map, map-append}
 use Rattle.std.proofs.lemmas.Option.{slice_get-map}
 use Rattle.cl_types.specs.declared.reply.Reply.{Reply}
 use Rattle.cl_types.specs.Times.{is_young}
-use Rattle.flat_model.specs.Handling.{Executes, if_young, Looks, Repeats, handling, item_outcome, on_oldest, latest, oldest_of}
-use Rattle.flat_model.specs.Frames.{Item, kind_of}
-use Rattle.flat_model.specs.Nodes.{IsSetUp, Name, Record, name_of as name_in, record_named, same_name, handles}
+use Rattle.node_model.specs.Handling.{Executes, if_young, Looks, Repeats, handling, item_outcome, on_oldest, latest, oldest_of}
+use Rattle.frame_model.specs.Frames.{Item, kind_of}
+use Rattle.node_model.specs.Nodes.{IsSetUp, Name, Record, name_of as name_in, record_named, same_name, handles}
 use Rattle.flat_model.specs.State.{FlatState}
 use Rattle.cl_types.specs.Requests.{is_changing}
 use Rattle.cl_types.specs.declared.call.Kind.{Kind}

@@ -13,15 +13,15 @@ use Rattle.cl_types.specs.declared.request.Request.{Request}
 use Rattle.cl_types.specs.declared.request.Request.TheVariants as request
 use Rattle.cl_types.specs.declared.small_reply.SmallReply.{SmallReply}
 use Rattle.cl_types.specs.Requests.{is_changing}
-use Rattle.flat_model.specs.FrameLaws.{ReadsAsReply}
+use Rattle.frame_model.specs.FrameLaws.{ReadsAsReply}
 use Rattle.cl_types.specs.Kinds.{kind_number}
-use Rattle.flat_model.specs.Frames.{Item, IsHead, SpellsReply, is_reply_of, kind_of, reply_frame, reply_in_body, reply_value, status_in}
-use Rattle.flat_model.specs.Handling.{item_outcome}
+use Rattle.frame_model.specs.Frames.{Item, IsHead, SpellsReply, is_reply_of, kind_of, reply_frame, reply_in_body, reply_value, status_in}
+use Rattle.node_model.specs.Handling.{item_outcome}
 use Rattle.flat_model.specs.Objects.{Object, KvObject, Pairs, Given, kv_step, object_step}
 use Rattle.flat_model.specs.State.{FlatState}
 use Rattle.flat_model.specs.Step.{given, on_object, outcome}
-use Rattle.flat_model.proofs.FrameLemmas.{length-frame}
-use Rattle.flat_model.proofs.ReplyFrameLemmas.{replies_are_read_again}
+use Rattle.frame_model.proofs.FrameLemmas.{length-frame}
+use Rattle.frame_model.proofs.ReplyFrameLemmas.{replies_are_read_again}
 use Rattle.flat_model.proofs.RunLemmas.{reading_keeps}
 use Rattle.frame_codec.specs.Writing.{IsWritten}
 use Rattle.node_core.specs.declared.placed.PlacedReply.{PlacedReply}

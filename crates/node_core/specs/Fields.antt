@@ -7,9 +7,9 @@ use Rattle.cl_types.specs.declared.small_reply.SmallReply.{SmallReply}
 use Rattle.cl_types.specs.Requests.{is_changing}
 use Rattle.cl_types.specs.SmallReplies.{value_of}
 use Rattle.cl_types.specs.Kinds.{kind_number}
-use Rattle.flat_model.specs.Frames.{Item, reply_in_body, reply_value, status_in}
-use Rattle.flat_model.specs.Handling.{Handling, Repeats, RefusesForNow, Executes, Looks, handling, oldest_of}
-use Rattle.flat_model.specs.Nodes.{Record, name_of as name_in, record_named}
+use Rattle.frame_model.specs.Frames.{Item, reply_in_body, reply_value, status_in}
+use Rattle.node_model.specs.Handling.{Handling, Repeats, RefusesForNow, Executes, Looks, handling, oldest_of}
+use Rattle.node_model.specs.Nodes.{Record, name_of as name_in, record_named}
 use Rattle.flat_model.specs.State.{FlatState}
 use Rattle.translate_cache.specs.Cached.{Cached}
 use Rattle.retry_buffer.specs.declared.noted.Noted.{Noted}

@@ -9,7 +9,7 @@ use Rattle.cl_types.specs.declared.reply.Reply.{Reply}
 use Rattle.cl_types.specs.declared.request.Request.{Request}
 use Rattle.cl_types.specs.declared.request.RequestRef.{RequestRef}
 use Rattle.cl_types.specs.Requests.{request_of}
-use Rattle.flat_model.specs.Frames.{Item, is_reply_of, items_in, reply_frame, kind_of, status_in}
+use Rattle.frame_model.specs.Frames.{Item, is_reply_of, items_in, reply_frame, kind_of, status_in}
 use Rattle.data_path.specs.declared.store.PageStore.{PageStore}
 use Rattle.data_path.specs.Spaces.{contents_of}
 use Rattle.data_path.specs.Store.{IsLatest}
@@ -18,7 +18,7 @@ use Rattle.flat_model.specs.Objects.Object.{KvObject}
 use Rattle.kv_offload.specs.Stored.{pairs_in}
 use Rattle.flat_model.specs.State.{FlatState}
 use Rattle.translate_cache.specs.Cached.{Cached, entry_of}
-use Rattle.flat_model.specs.Nodes.{Node, Said, Gives, IsBusy, NodeAnswer, Refuses, Says}
+use Rattle.node_model.specs.Nodes.{Node, Said, Gives, IsBusy, NodeAnswer, Refuses, Says}
 use Rattle.node_core.specs.Placed.{page_used}
 use Rattle.node_core.specs.declared.outcome.Outcome.{Outcome}
 use Rattle.node_core.specs.declared.outcome.Outcome.TheVariants.{Replied, Busy, Bad}

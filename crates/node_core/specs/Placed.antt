@@ -6,8 +6,8 @@ use Rattle.cl_types.specs.declared.request.Request.TheVariants as request
 use Rattle.cl_types.specs.declared.reply.Reply.{Reply}
 use Rattle.cl_types.specs.declared.reply.Reply.TheVariants as reply
 use Rattle.cl_types.specs.Bytes.{bytes_at}
-use Rattle.flat_model.specs.Frames.{is_reply_of}
-use Rattle.flat_model.specs.Pages.{page_of}
+use Rattle.frame_model.specs.Frames.{is_reply_of}
+use Rattle.cl_types.specs.Pages.{page_of}
 use Rattle.frame_codec.specs.Writing.{may_carry}
 use Rattle.node_core.specs.declared.placed.TheConstants.{VALUE_AT}
 use Rattle.node_core.specs.declared.placed.PlacedReply.{PlacedReply}

@@ -3,10 +3,10 @@
 ghost use Rattle.std.specs.Prelude.{◌≡◌, ◌+◌, ◌≤◌, [], true, length, IfOk, IsTrue};
 ghost use Rattle.cl_types.specs.Requests.{request_of};
 ghost use Rattle.cl_types.specs.declared.limits.TheConstants.{FRAME_ROOM};
-ghost use Rattle.flat_model.specs.Frames.{IsHead, head_in, kind_of, request_in};
-ghost use Rattle.flat_model.specs.Handling.{Executes, Looks, latest};
-ghost use Rattle.flat_model.specs.Nodes.{IsSetUp, handles, keeping, node_answer, node_given};
-ghost use Rattle.flat_model.specs.Ranges.{is_in_range};
+ghost use Rattle.frame_model.specs.Frames.{IsHead, head_in, kind_of, request_in};
+ghost use Rattle.node_model.specs.Handling.{Executes, Looks, latest};
+ghost use Rattle.node_model.specs.Nodes.{IsSetUp, handles, keeping, node_answer, node_given};
+ghost use Rattle.cl_types.specs.Ranges.{is_in_range};
 ghost use Rattle.flat_model.specs.Step.{outcome};
 ghost use Rattle.node_core.specs.Fields.{handling_at, handling_of, reply_kept, IsSpelled, IsSpelledWhereRepeated};
 ghost use Rattle.node_core.specs.Keeping.{Hits, OnIdle, Tells, TellsReply, TellsSaid, Uses, item_of};

@@ -3,8 +3,8 @@
 ghost use Rattle.std.specs.Prelude.{◌≡◌, ◌+◌, ◌≤◌, true, length, IsTrue};
 ghost use Rattle.cl_types.specs.Requests.{request_of};
 ghost use Rattle.cl_types.specs.declared.limits.TheConstants.{FRAME_ROOM};
-ghost use Rattle.flat_model.specs.Frames.{kind_of};
-ghost use Rattle.flat_model.specs.Ranges.{is_in_range};
+ghost use Rattle.frame_model.specs.Frames.{kind_of};
+ghost use Rattle.cl_types.specs.Ranges.{is_in_range};
 ghost use Rattle.flat_model.specs.Step.{outcome};
 ghost use Rattle.node_core.specs.Keeping.{Hits, IsUsed};
 ghost use Rattle.node_core.specs.Placed.{may_place, placed_in, is_access};

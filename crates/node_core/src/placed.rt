@@ -4,7 +4,7 @@ ghost use Rattle.std.specs.Prelude.{◌≡◌, ◌+◌, ◌<◌, ◌≤◌, ◌�
 ghost use Rattle.cl_types.specs.SmallReplies.{value_of};
 ghost use Rattle.cl_types.specs.Kinds.{kind_number};
 ghost use Rattle.cl_types.specs.declared.limits.TheConstants.{FRAME_ROOM};
-ghost use Rattle.flat_model.specs.Frames.{IsHead, reply_frame};
+ghost use Rattle.frame_model.specs.Frames.{IsHead, reply_frame};
 ghost use Rattle.frame_codec.specs.Writing.{IsWritten};
 ghost use Rattle.node_core.specs.Placed.{may_place, placed_in};
 ghost use Rattle.node_core.specs.declared.placed.TheConstants.{REPLY_BYTES, SMALL_REPLY_BYTES, STATUS_AT, VALUE_AT};

@@ -3,8 +3,8 @@
 ghost use Rattle.std.specs.Prelude.{◌≡◌, ◌+◌, ◌<◌, ◌≤◌, ℕ, true};
 ghost use Rattle.cl_types.specs.declared.numbers.Addr.{Addr as Address};
 ghost use Rattle.cl_types.specs.declared.request.Request.TheVariants.{Read};
-ghost use Rattle.flat_model.specs.Frames.{head_in, request_in};
-ghost use Rattle.flat_model.specs.Pages.{page_of};
+ghost use Rattle.frame_model.specs.Frames.{head_in, request_in};
+ghost use Rattle.cl_types.specs.Pages.{page_of};
 
 use crate::node::Node;
 use crate::outcome::Outcome;
@@ -12,9 +12,9 @@ use cl_types::config::{Field, NodeConfig, OffloadConfig, OffloadList};
 use cl_types::frame::{BadFrame, How};
 use cl_types::limits::FRAME_ROOM;
 use cl_types::numbers::{Addr, Space16, Vpn, try_pid};
+use cl_types::open_fault::OpenFault;
 use cl_types::reply::Refusal;
 use cl_types::steps::Steps;
-use flat_model::open_fault::OpenFault;
 use std::alloc::Global;
 use std::marker::Brand;
 use std::sync::ledger::{Blank, Ledger};

@@ -8,7 +8,7 @@ use Rattle.std.proofs.lemmas.List.FromFn.{length-range_with_len, length-map-rang
 use Rattle.std.proofs.lemmas.List.Sums.{sum_by-cons}
 use Rattle.cl_types.specs.Places.{Place, place_cmp, home_of, homes_at}
 use Rattle.hash_buckets.specs.PageMap.{PageMap, entry_of, load}
-use Rattle.flat_model.specs.Ranges.{is_page_count}
+use Rattle.cl_types.specs.Ranges.{is_page_count}
 use Rattle.flat_model.specs.Rows.{keys}
 use Rattle.flat_model.specs.State.{fits, is_mapped, places_of}
 

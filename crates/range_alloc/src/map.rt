@@ -4,7 +4,7 @@ ghost use Rattle.std.specs.Prelude.{true, false, ◌≡◌, ◌+◌, ◌-◌, �
 ghost use Rattle.cl_types.specs.declared.limits.TheConstants.{SPACE_PAGES};
 ghost use Rattle.cl_types.specs.Places.{Place, home_of};
 ghost use Rattle.hash_buckets.specs.PageMap.{IsValid, entry_of, load, with_entry, without_entry};
-ghost use Rattle.flat_model.specs.Ranges.{is_page_count};
+ghost use Rattle.cl_types.specs.Ranges.{is_page_count};
 ghost use Rattle.flat_model.specs.Rows.{keys};
 ghost use Rattle.flat_model.specs.State.{least};
 ghost use Rattle.range_alloc.specs.Joins.{can_join};

@@ -2,7 +2,7 @@
 
 ghost use Rattle.std.specs.Prelude.{IsTrue};
 ghost use Rattle.cl_types.specs.Places.{is_bucket_count};
-ghost use Rattle.flat_model.specs.Ranges.{is_page_count};
+ghost use Rattle.cl_types.specs.Ranges.{is_page_count};
 ghost use Rattle.range_alloc.specs.Ranges.{AreRanges, AreTaken};
 
 use crate::{map_range, unmap_range};

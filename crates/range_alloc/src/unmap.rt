@@ -4,7 +4,7 @@ ghost use Rattle.std.specs.Prelude.{true, false, option_map, ◌≡◌, ◌+◌,
 ghost use Rattle.std.specs.List.{cons_option};
 ghost use Rattle.hash_buckets.specs.PageMap.{IsValid, entry_of, without_entry};
 ghost use Rattle.page_pool.specs.PoolPages.{IsPartition, IsTaken};
-ghost use Rattle.flat_model.specs.Ranges.{is_page_count};
+ghost use Rattle.cl_types.specs.Ranges.{is_page_count};
 ghost use Rattle.range_alloc.specs.Ranges.{AreRanges, AreTaken, frame_at, frames_of, span_at, without_range};
 
 use cl_types::numbers::{PageNo, Space16, Vpn};

@@ -5,7 +5,7 @@ use Rattle.std.proofs.lemmas.Bool.{cases_Bool}
 use Rattle.std.proofs.lemmas.Option.{slice_get_read}
 use Rattle.index_lists.specs.NodeLists.{NodeLists, has, list_at, after, IsIn}
 use Rattle.index_lists.proofs.Linking.{split_eq}
-use Rattle.flat_model.specs.Nodes.{Name, same_name}
+use Rattle.node_model.specs.Nodes.{Name, same_name}
 use Rattle.retry_buffer.specs.declared.noted.Noted.{Noted}
 use Rattle.retry_buffer.specs.Kept.{name_of, noted_as}
 use Rattle.retry_buffer.specs.Chains.{chain_of}

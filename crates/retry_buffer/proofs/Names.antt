@@ -2,8 +2,8 @@
 use Rattle.std.proofs.Common.{◌≡◌, true, false, inl, inr, sym, subst, arith}
 use Rattle.std.proofs.lemmas.Bool.{cases_Bool}
 use Rattle.std.proofs.lemmas.Bool.Decides.{nat_tests}
-use Rattle.flat_model.specs.Nodes.{Name, same_name}
-use Rattle.flat_model.proofs.FrameLemmas.{one_kind}
+use Rattle.node_model.specs.Nodes.{Name, same_name}
+use Rattle.frame_model.proofs.FrameLemmas.{one_kind}
 
 -- names that the test takes for one are equal
 pub same_name_is : (a b : Name) → same_name a b ≡ true → a ≡ b

@@ -2,7 +2,7 @@
 use Rattle.std.proofs.Common.{◌≡◌, ℕ, zero, suc, ◌≤◌, true, false, ◌⊎◌, inl, inr, List, [], ◌∷◌, ◌++◌, drop, Some, None, refl, sym, ap, ◌∙◌, subst, slice_get}
 use Rattle.std.specs.List.{AllByRecursion}
 use Rattle.std.proofs.lemmas.Bool.{cases_Bool}
-use Rattle.flat_model.specs.Nodes.{Name, same_name}
+use Rattle.node_model.specs.Nodes.{Name, same_name}
 use Rattle.retry_buffer.specs.declared.noted.Noted.{Noted}
 use Rattle.retry_buffer.specs.Kept.{name_of, noted_as, AreNotedBy, AreInOrder, AreApart}
 use Rattle.retry_buffer.proofs.Names.{same_name_is, same_name_self, same_name_turned}

@@ -1,7 +1,7 @@
 -- The chains in which names are looked for. No public clause cites this module.
 use Rattle.std.specs.Prelude.{ℕ, ◌+◌, ◌*◌, ◌/◌, ◌%◌, ◌^◌}
 use Rattle.cl_types.specs.Kinds.{kind_number}
-use Rattle.flat_model.specs.Nodes.{Name}
+use Rattle.node_model.specs.Nodes.{Name}
 use Rattle.retry_buffer.specs.declared.chain.TheConstants.{NEIGHBOURS, SENDER, STEP}
 
 -- the hash of whoever sends requests of one kind, of 64 bits

@@ -1,8 +1,8 @@
 -- What a contract sees of a `Retry`.
 use Rattle.std.specs.Prelude.{◌≡◌, ℕ, ◌≤◌, ⊤, List, [], ◌∷◌, ◌++◌, length, find, Option, None, option_map}
 use Rattle.std.specs.List.{AllByRecursion}
-use Rattle.flat_model.specs.Handling.{Executes, latest, oldest_of, on_oldest}
-use Rattle.flat_model.specs.Nodes.{Name, same_name}
+use Rattle.node_model.specs.Handling.{Executes, latest, oldest_of, on_oldest}
+use Rattle.node_model.specs.Nodes.{Name, same_name}
 use Rattle.retry_buffer.specs.declared.noted.Noted.{Noted}
 
 -- the records, and how many there may be

@@ -1,7 +1,7 @@
 //! `Noted`: a record.
 
 ghost use Rattle.std.specs.Prelude.{◌≡◌};
-ghost use Rattle.flat_model.specs.Nodes.{same_name};
+ghost use Rattle.node_model.specs.Nodes.{same_name};
 ghost use Rattle.retry_buffer.specs.Kept.{name_of};
 
 use cl_types::call::Kind;

@@ -1,7 +1,7 @@
 //! `Retry`: the buffer and its calls.
 
 ghost use Rattle.std.specs.Prelude.{◌≡◌, ◌+◌, ◌<◌, ◌≤◌, ◌↔◌, [], ◌∷◌, ◌++◌, None, length, drop, option_map, IsOk, IfOk, IfErr, if◌then◌else◌, ◌==◌};
-ghost use Rattle.flat_model.specs.Handling.{RefusesForNow, on_oldest};
+ghost use Rattle.node_model.specs.Handling.{RefusesForNow, on_oldest};
 ghost use Rattle.retry_buffer.specs.Kept.{IsValid, HasRoom, AreNotedBy, name_of, noted_as, oldest_moment, with_noted};
 
 use crate::chain::{NEIGHBOURS, chain_of};

@@ -5,8 +5,8 @@ use Rattle.std.proofs.lemmas.Bool.Decides.{nat_tests}
 use Rattle.std.proofs.lemmas.List.Splits.{length-slice_split}
 use Rattle.cl_types.specs.declared.schedule.What.{What}
 use Rattle.cl_types.specs.declared.schedule.What.TheVariants.{MissingWord, ExtraWord}
-use Rattle.flat_model.specs.Text.{Text}
-use Rattle.flat_model.specs.Words.{Argument}
+use Rattle.texts.specs.Text.{Text}
+use Rattle.texts.specs.Words.{Argument}
 use Rattle.schedule_text.specs.Arguments.{arguments_after, count_fault, values_after}
 
 -- bytes have a part, however few they are

@@ -7,9 +7,9 @@ use Rattle.cl_types.specs.declared.schedule.CallText.{CallText}
 use Rattle.cl_types.specs.declared.schedule.Event.TheVariants as event
 use Rattle.cl_types.specs.declared.schedule.What.{What}
 use Rattle.cl_types.specs.declared.schedule.What.TheVariants.{ExtraWord, MissingWord, UnknownWord}
-use Rattle.flat_model.specs.Text.{Text, is_text}
-use Rattle.flat_model.specs.Words.{N, Value, argument_in, arguments_in, values_in, with_first}
-use Rattle.flat_model.specs.Grammar.{CallForm, Happens, Said, by_word, call_form, call_forms, called_by, in_call, line_forms, of_client, said_by, said_in_form, u16}
+use Rattle.texts.specs.Text.{Text, is_text}
+use Rattle.texts.specs.Words.{N, Value, argument_in, arguments_in, values_in, with_first}
+use Rattle.texts.specs.Grammar.{CallForm, Happens, Said, by_word, call_form, call_forms, called_by, in_call, line_forms, of_client, said_by, said_in_form, u16}
 use Rattle.schedule_text.specs.Arguments.{values_after}
 use Rattle.schedule_text.specs.Calls.{call_after, call_words, form_of}
 use Rattle.schedule_text.specs.Lines.{begun_of, joined, line_words}

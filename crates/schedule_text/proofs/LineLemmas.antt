@@ -4,7 +4,7 @@ use Rattle.std.proofs.lemmas.Bool.Decides.{nat_tests}
 use Rattle.std.specs.Borrow.{Bor}
 use Rattle.std.specs.List.{list_any, onto_first, slice_split}
 use Rattle.std.proofs.lemmas.List.{drop_more, drop_all}
-use Rattle.flat_model.specs.Text.{Text, is_empty, lines_in, without_empty_end, words_in}
+use Rattle.texts.specs.Text.{Text, is_empty, lines_in, without_empty_end, words_in}
 use Rattle.schedule_text.specs.Parts.{parts_left}
 use Rattle.schedule_text.proofs.ArgumentLemmas.{parts_some}
 

@@ -5,8 +5,8 @@ use Rattle.std.proofs.lemmas.Bool.{and_parts, ltb-false}
 use Rattle.std.proofs.lemmas.Bool.Decides.{nat_tests}
 use Rattle.std.proofs.Math.Nat.{mul-le-mul_left, mul_assoc, mul_comm, one-le-pow, pow-suc}
 use Rattle.cl_types.specs.declared.numbers.Addr.{Addr}
-use Rattle.flat_model.specs.Text.{Text}
-use Rattle.flat_model.specs.Words.{address_in, address_of_digits, hex_value, is_digit, is_hex_digit, is_plain, number_in, value_in}
+use Rattle.texts.specs.Text.{Text}
+use Rattle.texts.specs.Words.{address_in, address_of_digits, hex_value, is_digit, is_hex_digit, is_plain, number_in, value_in}
 use Rattle.schedule_text.specs.Digits.{spelled}
 use Rattle.schedule_text.proofs.DigitLemmas.{checked, spelled_is}
 

@@ -3,9 +3,9 @@ use Rattle.std.proofs.Common.{◌≡◌, ℕ, suc, ◌+◌, ◌==◌, true, fals
 use Rattle.std.proofs.lemmas.Bool.Decides.{nat_tests}
 use Rattle.cl_types.specs.declared.schedule.Schedule.{Schedule}
 use Rattle.cl_types.specs.declared.schedule.What.{What}
-use Rattle.flat_model.specs.Text.{Text, first_word, is_empty, is_skipped, lines_in, words_in}
-use Rattle.flat_model.specs.Faults.{first_fault}
-use Rattle.flat_model.specs.Grammar.{Fault, Reading, Said, at_end, judged_line, judged_said, line_read, place_faults, read_more, said_by_words, said_faults, schedule_from, schedule_of}
+use Rattle.texts.specs.Text.{Text, first_word, is_empty, is_skipped, lines_in, words_in}
+use Rattle.frame_model.specs.Faults.{first_fault}
+use Rattle.texts.specs.Grammar.{Fault, Reading, Said, at_end, judged_line, judged_said, line_read, place_faults, read_more, said_by_words, said_faults, schedule_from, schedule_of}
 use Rattle.schedule_text.specs.Reading.{Reads, too_long_of}
 use Rattle.schedule_text.specs.Readings.{Gives, line_said, sound}
 use Rattle.schedule_text.specs.Telling.{LeavesOf}

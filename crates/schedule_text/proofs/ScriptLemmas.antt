@@ -3,8 +3,8 @@ use Rattle.std.proofs.Common.{◌≡◌, ℕ, suc, ◌+◌, ◌==◌, Bool, leng
 use Rattle.std.proofs.lemmas.Bool.Decides.{nat_tests}
 use Rattle.cl_types.specs.declared.schedule.CallText.{CallText}
 use Rattle.cl_types.specs.declared.schedule.What.{What}
-use Rattle.flat_model.specs.Text.{Text, is_skipped, lines_in}
-use Rattle.flat_model.specs.Grammar.{Fault, script_from, script_line, script_more, script_of}
+use Rattle.texts.specs.Text.{Text, is_skipped, lines_in}
+use Rattle.texts.specs.Grammar.{Fault, script_from, script_line, script_more, script_of}
 use Rattle.schedule_text.specs.Reading.{Reads, too_long_of}
 use Rattle.schedule_text.specs.Telling.{LeavesOf}
 use Rattle.schedule_text.specs.declared.fault.ScheduleFault.{ScheduleFault}

@@ -2,8 +2,8 @@
 use Rattle.std.proofs.Common.{◌≡◌, ℕ, zero, suc, ◌+◌, ◌++◌, replicate, append_assoc, append-nil, add-one, ◌==◌, Bool, true, false, ◌&&◌, cond, List, [], ◌∷◌, refl, sym, ◌∙◌, ap, arith, Some, None, inl, inr, ◌⊎◌}
 use Rattle.std.specs.List.{concat, list_all, onto_first, slice_split}
 use Rattle.std.proofs.lemmas.Bool.Decides.{nat_tests}
-use Rattle.flat_model.specs.Text.{Text}
-use Rattle.flat_model.specs.Words.{is_digit, is_plain, number_in, times_in}
+use Rattle.texts.specs.Text.{Text}
+use Rattle.texts.specs.Words.{is_digit, is_plain, number_in, times_in}
 
 -- parts of a text at its stars: it is one, or there are two and more, and it isn't all digits
 abbrev IsOne : Text → Type 0

@@ -2,8 +2,8 @@
 use Rattle.std.specs.Prelude.{ℕ, nat_lt, List, length, if◌then◌else◌, Option, Some, None, Result, Err}
 use Rattle.cl_types.specs.declared.schedule.What.{What}
 use Rattle.cl_types.specs.declared.schedule.What.TheVariants.{MissingWord, ExtraWord}
-use Rattle.flat_model.specs.Text.{Text}
-use Rattle.flat_model.specs.Words.{Argument, Value, values_in}
+use Rattle.texts.specs.Text.{Text}
+use Rattle.texts.specs.Words.{Argument, Value, values_in}
 
 -- what is wrong with the number of words, and else the fault of the word in front
 abbrev pub count_fault : ℕ → Option What → List Text → Option What

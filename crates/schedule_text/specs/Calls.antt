@@ -3,9 +3,9 @@ use Rattle.std.specs.Prelude.{List, [], ◌∷◌, Option, Result, codes}
 use Rattle.std.specs.Borrow.{Bor}
 use Rattle.cl_types.specs.declared.schedule.CallText.{CallText}
 use Rattle.cl_types.specs.declared.schedule.What.{What}
-use Rattle.flat_model.specs.Text.{Text}
-use Rattle.flat_model.specs.Words.{Address, Number, Permission, BytesWord}
-use Rattle.flat_model.specs.Grammar.{CallForm, called_by, u32, u64, alloc_call, free_call, read_call, write_call, lock_call, unlock_call, add_call, cas_call, offload_call, fence_call}
+use Rattle.texts.specs.Text.{Text}
+use Rattle.texts.specs.Words.{Address, Number, Permission, BytesWord}
+use Rattle.texts.specs.Grammar.{CallForm, called_by, u32, u64, alloc_call, free_call, read_call, write_call, lock_call, unlock_call, add_call, cas_call, offload_call, fence_call}
 use Rattle.schedule_text.specs.Arguments.{arguments_after}
 use Rattle.schedule_text.specs.Parts.{words_left}
 use Rattle.schedule_text.specs.Telling.{Tells}

@@ -1,7 +1,7 @@
 -- The kinds of lines, by their words.
 use Rattle.std.specs.Prelude.{List, [], ◌∷◌, drop, if◌then◌else◌, Option, Some, None, option_and_then, option_map, codes}
-use Rattle.flat_model.specs.Grammar.{by_word}
-use Rattle.flat_model.specs.Text.{Text, first_word, is_text}
+use Rattle.texts.specs.Grammar.{by_word}
+use Rattle.texts.specs.Text.{Text, first_word, is_text}
 use Rattle.schedule_text.specs.Calls.{call_words}
 use Rattle.schedule_text.specs.Lines.{line_words}
 use Rattle.schedule_text.specs.declared.kinds.Kind.{Kind}

@@ -5,10 +5,10 @@ use Rattle.cl_types.specs.declared.numbers.ClientNo.{ClientNo}
 use Rattle.cl_types.specs.declared.schedule.CallText.{CallText}
 use Rattle.cl_types.specs.declared.schedule.Event.TheVariants as event
 use Rattle.cl_types.specs.declared.schedule.What.{What}
-use Rattle.flat_model.specs.Text.{Text}
-use Rattle.flat_model.specs.Words.{Address, Number}
-use Rattle.flat_model.specs.Grammar.{Begun, bare, client_says, form, in_call, in_deliver, in_garbage, in_offload, node_says, of_number, peek_says, said_in_form, u16, u64}
-use Rattle.flat_model.specs.Grammar as grammar
+use Rattle.texts.specs.Text.{Text}
+use Rattle.texts.specs.Words.{Address, Number}
+use Rattle.texts.specs.Grammar.{Begun, bare, client_says, form, in_call, in_deliver, in_garbage, in_offload, node_says, of_number, peek_says, said_in_form, u16, u64}
+use Rattle.texts.specs.Grammar as grammar
 use Rattle.schedule_text.specs.Parts.{words_left}
 use Rattle.schedule_text.specs.Telling.{TellsBy}
 use Rattle.schedule_text.specs.declared.fault.Stop.{Stop}

@@ -2,7 +2,7 @@
 use Rattle.std.specs.Prelude.{ℕ, ◌==◌, List, [], Option, Some, None}
 use Rattle.std.specs.Borrow.{Bor}
 use Rattle.std.specs.List.{slice_split}
-use Rattle.flat_model.specs.Text.{Text}
+use Rattle.texts.specs.Text.{Text}
 
 -- the parts of what stands behind a separator; where there was none, no part is left
 abbrev pub parts_left : ℕ → Option (Bor Text) → List Text

@@ -1,7 +1,7 @@
 -- When bytes are read, and what a call tells of them.
 use Rattle.std.specs.Prelude.{◌≡◌, ℕ, ◌+◌, nat_lt, true, false, List, length, if◌then◌else◌, Option, Some, None, Result, Ok, Err}
-use Rattle.flat_model.specs.Text.{lines_in}
-use Rattle.flat_model.specs.Grammar.{Fault}
+use Rattle.texts.specs.Text.{lines_in}
+use Rattle.texts.specs.Grammar.{Fault}
 use Rattle.schedule_text.specs.declared.fault.TheConstants.{MOST_BYTES, MOST_LINES}
 use Rattle.schedule_text.specs.declared.fault.ScheduleFault.{ScheduleFault}
 use Rattle.schedule_text.specs.declared.fault.ScheduleFault.TheVariants.{Line, TooLong, NoMemory}

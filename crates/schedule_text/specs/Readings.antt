@@ -1,10 +1,10 @@
 -- What a line of a schedule says.
 use Rattle.std.specs.Prelude.{◌≡◌, Some, None, Result, Ok, Err}
 use Rattle.cl_types.specs.declared.schedule.What.{What}
-use Rattle.flat_model.specs.Text.{Text, first_word, words_in}
-use Rattle.flat_model.specs.Faults.{first_fault}
-use Rattle.flat_model.specs.Grammar.{Fault, place_faults, read_more, said_by_words, said_faults}
-use Rattle.flat_model.specs.Grammar as grammar
+use Rattle.texts.specs.Text.{Text, first_word, words_in}
+use Rattle.frame_model.specs.Faults.{first_fault}
+use Rattle.texts.specs.Grammar.{Fault, place_faults, read_more, said_by_words, said_faults}
+use Rattle.texts.specs.Grammar as grammar
 use Rattle.schedule_text.specs.declared.fault.ScheduleFault.{ScheduleFault}
 use Rattle.schedule_text.specs.declared.fault.ScheduleFault.TheVariants.{Line, TooLong, NoMemory}
 

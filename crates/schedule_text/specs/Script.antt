@@ -4,8 +4,8 @@ use Rattle.cl_types.specs.declared.schedule.CallText.{CallText}
 use Rattle.cl_types.specs.declared.schedule.What.{What}
 use Rattle.cl_types.specs.declared.schedule.Script.{Script}
 use Rattle.schedule_text.specs.declared.fault.ScheduleFault.{ScheduleFault}
-use Rattle.flat_model.specs.Text.{Text, is_skipped}
-use Rattle.flat_model.specs.Grammar.{Fault, script_line}
+use Rattle.texts.specs.Text.{Text, is_skipped}
+use Rattle.texts.specs.Grammar.{Fault, script_line}
 
 -- calls, each with the number of its line
 abbrev pub Calls : Type 0

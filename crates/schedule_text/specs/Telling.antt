@@ -1,13 +1,13 @@
 -- What a call tells of a line, where want of memory may come instead.
 use Rattle.std.specs.Prelude.{◌≡◌, Result, Ok, Err}
 use Rattle.cl_types.specs.declared.schedule.What.{What}
-use Rattle.flat_model.specs.Words.{Value}
+use Rattle.texts.specs.Words.{Value}
 use Rattle.schedule_text.specs.declared.fault.Stop.{Stop}
 use Rattle.schedule_text.specs.declared.fault.Stop.TheVariants.{Bad, NoMemory}
 use Rattle.schedule_text.specs.declared.fault.ScheduleFault.{ScheduleFault}
 use Rattle.schedule_text.specs.declared.fault.ScheduleFault.TheVariants.{Line, TooLong}
 use Rattle.schedule_text.specs.declared.fault.ScheduleFault.TheVariants as fault
-use Rattle.flat_model.specs.Grammar.{Fault}
+use Rattle.texts.specs.Grammar.{Fault}
 
 -- what was read is what the grammar gives, with f of what was read as its value
 abbrev pub TellsBy : {X Y : Type 0} → (X → Y) → Result X Stop → Result Y What → Type 0

@@ -1,7 +1,7 @@
 //! The arguments of a line: so many words, and each as its kind.
 
 ghost use Rattle.std.specs.Prelude.{◌≡◌, ◌≤◌, [], ◌∷◌, Some, None, IfOk, IfErr, OnOk};
-ghost use Rattle.flat_model.specs.Words.{A, Address, N, Number, P, Permission, argument_in};
+ghost use Rattle.texts.specs.Words.{A, Address, N, Number, P, Permission, argument_in};
 ghost use Rattle.schedule_text.specs.Arguments.{count_fault};
 ghost use Rattle.schedule_text.specs.Parts.{words_left};
 ghost use Rattle.schedule_text.specs.Telling.{told};

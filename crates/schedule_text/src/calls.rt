@@ -1,8 +1,8 @@
 //! The calls of lines and scripts.
 
 ghost use Rattle.std.specs.Prelude.{◌≡◌};
-ghost use Rattle.flat_model.specs.Text.{words_in};
-ghost use Rattle.flat_model.specs.Grammar.{by_word, call_in_words};
+ghost use Rattle.texts.specs.Text.{words_in};
+ghost use Rattle.texts.specs.Grammar.{by_word, call_in_words};
 ghost use Rattle.schedule_text.specs.Calls.{GivesCall, call_words};
 ghost use Rattle.schedule_text.specs.Telling.{Tells};
 

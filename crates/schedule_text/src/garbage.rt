@@ -1,8 +1,8 @@
 //! Whether garbage spells a frame after all.
 
 ghost use Rattle.std.specs.Prelude.{◌≡◌, IfOk, is_none};
-ghost use Rattle.flat_model.specs.Clients.{expanded};
-ghost use Rattle.flat_model.specs.Frames.{reply_fault, request_fault};
+ghost use Rattle.cl_types.specs.Written.{expanded};
+ghost use Rattle.frame_model.specs.Frames.{reply_fault, request_fault};
 
 use cl_types::items::{Bytes, NoMemory};
 use cl_types::schedule::Written;

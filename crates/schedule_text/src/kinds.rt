@@ -1,7 +1,7 @@
 //! The kind of a line, by its words.
 
 ghost use Rattle.std.specs.Prelude.{◌≡◌};
-ghost use Rattle.flat_model.specs.Text.{first_word, words_in};
+ghost use Rattle.texts.specs.Text.{first_word, words_in};
 ghost use Rattle.schedule_text.specs.Kinds.{call_kind, deliver_kind, kind_after, kind_of, offload_kind};
 ghost use Rattle.schedule_text.specs.Parts.{words_left};
 

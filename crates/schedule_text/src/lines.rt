@@ -2,9 +2,9 @@
 
 ghost use Rattle.std.specs.Prelude.{◌≡◌, ℕ, ◌<◌, ◌∷◌, ◌==◌, ◌&&◌, leb, nat_lt, length};
 ghost use Rattle.std.specs.List.{list_all, list_any};
-ghost use Rattle.flat_model.specs.Text.{is_empty, is_skipped, lines_in, words_in};
-ghost use Rattle.flat_model.specs.Faults.{first_fault};
-ghost use Rattle.flat_model.specs.Grammar.{byte_faults};
+ghost use Rattle.texts.specs.Text.{is_empty, is_skipped, lines_in, words_in};
+ghost use Rattle.frame_model.specs.Faults.{first_fault};
+ghost use Rattle.texts.specs.Grammar.{byte_faults};
 ghost use Rattle.schedule_text.specs.Reading.{too_long_of};
 
 use crate::fault::{MOST_BYTES, MOST_LINES, ScheduleFault};

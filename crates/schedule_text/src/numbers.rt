@@ -1,7 +1,7 @@
 //! Numbers and addresses.
 
 ghost use Rattle.std.specs.Prelude.{◌≡◌, ◌-◌, ◌^◌, ◌<◌, ◌≤◌, IfSome, IsTrue};
-ghost use Rattle.flat_model.specs.Words.{address_in, address_of_digits, hex_value, is_digit, is_hex_digit, is_plain, number_in};
+ghost use Rattle.texts.specs.Words.{address_in, address_of_digits, hex_value, is_digit, is_hex_digit, is_plain, number_in};
 ghost use Rattle.schedule_text.specs.Digits.{spelled, with_digit};
 
 use cl_types::numbers::Addr;

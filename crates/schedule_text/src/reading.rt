@@ -1,10 +1,10 @@
 //! What was read of a schedule so far, line by line.
 
 ghost use Rattle.std.specs.Prelude.{◌≡◌, [], ◌∷◌, ◌++◌, IfOk, OnOk, drop, option_map};
-ghost use Rattle.flat_model.specs.Faults.{first_fault};
-ghost use Rattle.flat_model.specs.Text.{first_word, words_in};
-ghost use Rattle.flat_model.specs.Grammar.{at_end, event_faults, is_given, line_read, nothing_read, place_faults, read_more, said_faults, with_offload};
-ghost use Rattle.flat_model.specs.Grammar as grammar;
+ghost use Rattle.frame_model.specs.Faults.{first_fault};
+ghost use Rattle.texts.specs.Text.{first_word, words_in};
+ghost use Rattle.texts.specs.Grammar.{at_end, event_faults, is_given, line_read, nothing_read, place_faults, read_more, said_faults, with_offload};
+ghost use Rattle.texts.specs.Grammar as grammar;
 ghost use Rattle.schedule_text.specs.Lines.{said_of};
 ghost use Rattle.schedule_text.specs.Readings.{Gives, line_said};
 ghost use Rattle.schedule_text.specs.Telling.{LeavesOf, TellsBy};
@@ -35,7 +35,7 @@ pub struct Reading {
 }
 
 impl Model for Reading {
-    ghost use Rattle.flat_model.specs.Grammar as grammar;
+    ghost use Rattle.texts.specs.Grammar as grammar;
 
     ghost Value = { grammar.Reading };
 

@@ -1,8 +1,8 @@
 //! What the lines of a schedule say.
 
 ghost use Rattle.std.specs.Prelude.{◌≡◌, ◌∷◌};
-ghost use Rattle.flat_model.specs.Text.{words_in};
-ghost use Rattle.flat_model.specs.Grammar.{by_word, in_call, said_by_words, said_in_form};
+ghost use Rattle.texts.specs.Text.{words_in};
+ghost use Rattle.texts.specs.Grammar.{by_word, in_call, said_by_words, said_in_form};
 ghost use Rattle.schedule_text.specs.Calls.{call_after, form_of};
 ghost use Rattle.schedule_text.specs.Lines.{Says, SaysCall, line_words, said_of};
 ghost use Rattle.schedule_text.specs.Parts.{words_left};

@@ -1,7 +1,7 @@
 //! A schedule, line by line.
 
 ghost use Rattle.std.specs.Prelude.{◌≡◌};
-ghost use Rattle.flat_model.specs.Grammar.{schedule_of};
+ghost use Rattle.texts.specs.Grammar.{schedule_of};
 ghost use Rattle.schedule_text.specs.Reading.{Reads};
 
 use crate::fault::ScheduleFault;

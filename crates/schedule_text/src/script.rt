@@ -1,7 +1,7 @@
 //! A client's script, line by line.
 
 ghost use Rattle.std.specs.Prelude.{◌≡◌};
-ghost use Rattle.flat_model.specs.Grammar.{script_line, script_of};
+ghost use Rattle.texts.specs.Grammar.{script_line, script_of};
 ghost use Rattle.schedule_text.specs.Reading.{Reads};
 ghost use Rattle.schedule_text.specs.Script.{calls_of, with_line};
 ghost use Rattle.schedule_text.specs.Telling.{LeavesOf, Tells};

@@ -2,8 +2,7 @@
 
 ghost use Rattle.std.specs.Prelude.{◌≡◌, ◌++◌, ◌*◌, ◌/◌, ◌%◌, ◌==◌, ◌&&◌, ◌≤◌, leb, length, IfOk, IfSome, IsTrue};
 ghost use Rattle.std.specs.List.{list_all};
-ghost use Rattle.flat_model.specs.Words.{BytesWord, argument_in, bytes_of_pairs, is_hex_digit, most_written, times_in};
-ghost use Rattle.flat_model.specs.Words.{B};
+ghost use Rattle.texts.specs.Words.{BytesWord, argument_in, bytes_of_pairs, is_hex_digit, most_written, times_in, B};
 ghost use Rattle.schedule_text.specs.Parts.{parts_left};
 ghost use Rattle.schedule_text.specs.Telling.{TellsBy};
 

@@ -1,7 +1,7 @@
 -- Printing that stops in the middle of a text leaves a front of it.
 use Rattle.std.proofs.Common.{◌≡◌, ℕ, [], ◌∷◌, ◌++◌, refl, sym, ap, ◌∙◌, append_assoc, append-nil, subst, Result, Ok, Err}
 use Rattle.std.specs.Result.{OnErr}
-use Rattle.flat_model.specs.Text.{Text, words}
+use Rattle.texts.specs.Text.{Text, words}
 use Rattle.transcript_text.specs.Fronts.{IsFront}
 
 -- nothing was printed

@@ -1,6 +1,6 @@
 -- What stands where printing stopped early.
 use Rattle.std.specs.Prelude.{◌≡◌, ◌++◌}
-use Rattle.flat_model.specs.Text.{Text}
+use Rattle.texts.specs.Text.{Text}
 
 -- what stands is what stood and then a front of the text
 pub record IsFront (old text new : Text) : Type 0 where

@@ -3,8 +3,8 @@ use Rattle.std.specs.Prelude.{decimal}
 use Rattle.hex.specs.Hex.{encode_lower}
 use Rattle.transcript_text.specs.declared.word.Word.{Word}
 use Rattle.transcript_text.specs.declared.word.Word.TheVariants as word
-use Rattle.flat_model.specs.Text.{Text}
-use Rattle.flat_model.specs.Texts.{address, call_name, hex_or_dash, part_name}
+use Rattle.texts.specs.Text.{Text}
+use Rattle.texts.specs.Texts.{address, call_name, hex_or_dash, part_name}
 
 -- the text of a word
 abbrev pub text_of : Word → Text

@@ -1,8 +1,8 @@
 //! What an event did, in words.
 
 ghost use Rattle.std.specs.Prelude.{◌≡◌, ◌≤◌, [], ◌∷◌, ◌++◌, OnOk, OnErr, decimal};
-ghost use Rattle.flat_model.specs.Text.{words};
-ghost use Rattle.flat_model.specs.Texts.{bad_text, did_text};
+ghost use Rattle.texts.specs.Text.{words};
+ghost use Rattle.texts.specs.Texts.{bad_text, did_text};
 ghost use Rattle.transcript_text.specs.Fronts.{IsFront};
 ghost use Rattle.transcript_text.specs.Statuses.{HasGoodStatus};
 

@@ -1,8 +1,8 @@
 //! The line of an entry of the history.
 
 ghost use Rattle.std.specs.Prelude.{◌≡◌, [], ◌∷◌, ◌++◌, OnOk, OnErr, codes};
-ghost use Rattle.flat_model.specs.Text.{line_of};
-ghost use Rattle.flat_model.specs.Texts.{entry_text, op_text, reply_text, request_text};
+ghost use Rattle.texts.specs.Text.{line_of};
+ghost use Rattle.texts.specs.Texts.{entry_text, op_text, reply_text, request_text};
 ghost use Rattle.transcript_text.specs.Fronts.{IsFront};
 
 use crate::names::{perm_name, refusal_name};

@@ -1,8 +1,8 @@
 //! The line of an event.
 
 ghost use Rattle.std.specs.Prelude.{◌≡◌, [], ◌∷◌, ◌++◌, OnOk, OnErr, codes};
-ghost use Rattle.flat_model.specs.Text.{line_of, words};
-ghost use Rattle.flat_model.specs.Texts.{answer_text, call_name, ending_text, numbered_text, value_text};
+ghost use Rattle.texts.specs.Text.{line_of, words};
+ghost use Rattle.texts.specs.Texts.{answer_text, call_name, ending_text, numbered_text, value_text};
 ghost use Rattle.transcript_text.specs.Fronts.{IsFront};
 ghost use Rattle.transcript_text.specs.Statuses.{HasGoodStatus};
 

@@ -1,7 +1,7 @@
 //! The fixed words of what is told by its name.
 
 ghost use Rattle.std.specs.Prelude.{◌≡◌, ◌≤◌};
-ghost use Rattle.flat_model.specs.Texts.{fault_text, field_text, how_text, perm_text, refusal_text, status_text};
+ghost use Rattle.texts.specs.Texts.{fault_text, field_text, how_text, perm_text, refusal_text, status_text};
 
 use cl_types::call::Perm;
 use cl_types::frame::{FieldName, How, IssueFault};

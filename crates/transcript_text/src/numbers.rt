@@ -3,8 +3,8 @@
 ghost use Rattle.std.specs.Prelude.{◌≡◌, ◌++◌, ◌<◌, false, OnOk, OnErr, map, decimal, slice_index};
 ghost use Rattle.std.specs.Fmt.{digit_glyph, digits};
 ghost use Rattle.hex.specs.Hex.{encode_lower, lower_digits};
-ghost use Rattle.flat_model.specs.Text.{dotted};
-ghost use Rattle.flat_model.specs.Texts.{address, call_name, hex_or_dash, part_name};
+ghost use Rattle.texts.specs.Text.{dotted};
+ghost use Rattle.texts.specs.Texts.{address, call_name, hex_or_dash, part_name};
 ghost use Rattle.transcript_text.specs.Fronts.{IsFront};
 
 use cl_types::items::{Bytes, NoMemory};

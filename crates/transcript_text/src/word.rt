@@ -1,7 +1,7 @@
 //! The words of a line.
 
 ghost use Rattle.std.specs.Prelude.{◌≡◌, ◌++◌, OnOk, OnErr, map};
-ghost use Rattle.flat_model.specs.Text.{words};
+ghost use Rattle.texts.specs.Text.{words};
 ghost use Rattle.transcript_text.specs.Fronts.{IsFront};
 ghost use Rattle.transcript_text.specs.Word.{text_of};
 

@@ -4,7 +4,7 @@ use Rattle.std.specs.Int.{to_le_bytes, w64}
 use Rattle.cl_types.specs.declared.call.AtomicOp.{AtomicOp}
 use Rattle.cl_types.specs.declared.numbers.Addr.{Addr}
 use Rattle.cl_types.specs.declared.reply.Reply.TheVariants.{Word}
-use Rattle.flat_model.specs.Pages.{offset_of, word_after, word_at}
+use Rattle.cl_types.specs.Pages.{offset_of, word_after, word_at}
 use Rattle.flat_model.specs.State.{FlatState, Page, bytes_of}
 use Rattle.flat_model.specs.Step.{Outcome, puts}
 

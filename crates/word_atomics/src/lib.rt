@@ -13,7 +13,7 @@ ghost use Rattle.cl_types.specs.declared.limits.TheConstants.{ADDRESS_END, PAGE_
 ghost use Rattle.cl_types.specs.declared.reply.Reply.TheVariants.{Word};
 ghost use Rattle.data_path.specs.Access.{reply_in};
 ghost use Rattle.data_path.specs.Store.{memory_of, IsLatest, IsWhole};
-ghost use Rattle.flat_model.specs.Pages.{page_of, word_after, word_at};
+ghost use Rattle.cl_types.specs.Pages.{page_of, word_after, word_at};
 ghost use Rattle.flat_model.specs.Step.{atomic};
 ghost use Rattle.page_pool.specs.PoolPages.{IsReady};
 ghost use Rattle.translate_cache.specs.Cached.{entry_of as cached_entry};

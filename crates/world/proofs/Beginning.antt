@@ -7,18 +7,19 @@ use Rattle.std.proofs.lemmas.Bool.Decides.{nat_tests}
 use Rattle.std.proofs.Math.Seq.{drop-nil}
 use Rattle.cl_types.specs.declared.config.Config.{Config}
 use Rattle.cl_types.specs.declared.numbers.ClientNo.{ClientNo}
-use Rattle.flat_model.specs.Apart.{AreApart}
-use Rattle.flat_model.specs.Client.{ClientState, new_client, same_client}
-use Rattle.flat_model.specs.Nodes.{opening_node}
-use Rattle.flat_model.specs.Account.{nothing_yet}
+use Rattle.client_model.specs.Apart.{AreApart}
+use Rattle.client_model.specs.Client.{ClientState, new_client}
+use Rattle.cl_types.specs.Parts.{same_client}
+use Rattle.node_model.specs.Nodes.{opening_node}
+use Rattle.trace.specs.Account.{nothing_yet}
 use Rattle.flat_model.specs.State.{opening}
-use Rattle.account_laws.specs.NodeLines.{node_at, record_at}
+use Rattle.trace_laws.specs.NodeLines.{node_at, record_at}
 use Rattle.cl_types.specs.declared.line.Entry.{Entry}
-use Rattle.flat_model.specs.declared.open_fault.OpenFault.{OpenFault}
-use Rattle.flat_model.specs.declared.open_fault.OpenFault.TheVariants as fault
+use Rattle.cl_types.specs.declared.open_fault.OpenFault.{OpenFault}
+use Rattle.cl_types.specs.declared.open_fault.OpenFault.TheVariants as fault
 use Rattle.node_core.specs.Keeping.{KeptNode}
 use Rattle.data_path.specs.Store.{no_entries}
-use Rattle.flat_model.specs.Clients.{pid_of}
+use Rattle.trace.specs.Clients.{pid_of}
 use Rattle.world.specs.Fields.{AreSound, IsSound, IsWithin, numbers_of, world_around, world_of}
 use Rattle.world.specs.Follows.{StandsFor, new_world, opened}
 use Rattle.world.specs.Running.{HaveNumbersApart, IsFair}

@@ -5,8 +5,8 @@ use Rattle.std.specs.List.{list_any}
 use Rattle.std.specs.Map.{keys_of, lookup, values_of}
 use Rattle.std.proofs.lemmas.Bool.Decides.{nat_tests}
 use Rattle.cl_types.specs.declared.numbers.ClientNo.{ClientNo}
-use Rattle.flat_model.specs.Apart.{AreApart}
-use Rattle.flat_model.specs.Client.{ClientState}
+use Rattle.client_model.specs.Apart.{AreApart}
+use Rattle.client_model.specs.Client.{ClientState}
 use Rattle.indexmap.specs.IndexMap.{set_value_at}
 use Rattle.world.specs.Fields.{numbers_of}
 use Rattle.world.specs.Worlds.{client_in, with_client}

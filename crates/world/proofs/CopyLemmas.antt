@@ -3,7 +3,7 @@ use Rattle.std.proofs.Common.{◌≡◌, ℕ, zero, suc, ◌+◌, ◌*◌, List,
 use Rattle.std.specs.List.{concat}
 use Rattle.cl_types.specs.Bytes.{zeros}
 use Rattle.cl_types.specs.declared.schedule.Written.{Written}
-use Rattle.flat_model.specs.Clients.{expanded}
+use Rattle.cl_types.specs.Written.{expanded}
 
 repeats_suc : (n : ℕ) (bytes : List ℕ) → concat (replicate (suc n) bytes) ≡ concat (replicate n bytes) ++ bytes
 repeats_suc zero bytes = append-nil bytes

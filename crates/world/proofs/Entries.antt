@@ -13,14 +13,14 @@ use Rattle.cl_types.specs.declared.reply.Part.{Part}
 use Rattle.cl_types.specs.declared.request.Request.{Request}
 use Rattle.cl_types.specs.declared.schedule.Event.{Event}
 use Rattle.cl_types.specs.declared.schedule.Event.TheVariants as event
-use Rattle.flat_model.specs.Account.{is_before, with_entry}
-use Rattle.flat_model.specs.Client.{ClientState, Polled, GivesUp, EndsFence, Sends, Idles, poll}
-use Rattle.flat_model.specs.Clients.{call_of}
-use Rattle.flat_model.specs.Frames.{Item, head_in, reply_in, request_fault, request_in}
-use Rattle.flat_model.specs.Handling.{latest}
-use Rattle.flat_model.specs.Hearing.{Hearing, HearsBad, HearsOther, HearsLate, HearsUnfit, HearsReply, hearing}
-use Rattle.flat_model.specs.Issue.{issue_fault}
-use Rattle.flat_model.specs.Nodes.{Said, Gives, IsBusy, step_item}
+use Rattle.trace.specs.Account.{is_before, with_entry}
+use Rattle.client_model.specs.Client.{ClientState, Polled, GivesUp, EndsFence, Sends, Idles, poll}
+use Rattle.cl_types.specs.Written.{call_of}
+use Rattle.frame_model.specs.Frames.{Item, head_in, reply_in, request_fault, request_in}
+use Rattle.node_model.specs.Handling.{latest}
+use Rattle.client_model.specs.Hearing.{Hearing, HearsBad, HearsOther, HearsLate, HearsUnfit, HearsReply, hearing}
+use Rattle.client_model.specs.Issue.{issue_fault}
+use Rattle.node_model.specs.Nodes.{Said, Gives, IsBusy, step_item}
 use Rattle.link_sim.specs.Got.{Found, Live, Expired, Absent, found_at}
 use Rattle.link_sim.specs.LinkFrames.{frame_at, next_handed, next_number}
 use Rattle.world.specs.declared.note.Note.{Note}

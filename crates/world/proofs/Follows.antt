@@ -26,40 +26,42 @@ use Rattle.cl_types.specs.declared.schedule.Event.TheVariants as event
 use Rattle.link_sim.specs.Got.{Live, Expired, found_at}
 use Rattle.link_sim.specs.LinkFrames.{LinkFrames, next_number}
 use Rattle.link_sim.specs.LinkFrames.{frame_at as link_frame}
-use Rattle.flat_model.proofs.ReplyFrameLemmas.{replies_are_read_again}
-use Rattle.flat_model.proofs.RequestFrameLemmas.{requests_are_read_again}
-use Rattle.flat_model.specs.Account.{Account, Carried, Effect, Frame, Load, Asks, Answers, asks_next, end_of, extended, found_none, frame_at, is_before, memory_at, next_frame_number, nothing_yet, now, recorded, says, taken_in_order, ticks_of, with_entries, with_entry}
-use Rattle.flat_model.specs.Client.{ClientState, ClientCall, ClientPart, Outgoing, Polled, GivesUp, EndsFence, Sends, Idles, Sending, after_issue, after_poll, after_reply, again, anew, fence_first, flight_under, flights, handed_out, has_room_in_flight, head_of, next_id, poll, same_client, sendable, to_give_up, to_send, to_send_again}
-use Rattle.flat_model.specs.Clients.{call_of, client_at, expanded, pid_of}
-use Rattle.flat_model.specs.Events.{account, account_from, account_of_latest, effect, handed, if_live, if_there, next_account, nothing_happens, on_call, on_delivery, on_flight, on_found_page, on_frame, on_garbage, on_judged, on_peek, on_polled, on_reply, sent_text, shown, then_also}
-use Rattle.flat_model.specs.FrameLaws.{ReadsAsReply, ReadsAsRequest}
-use Rattle.flat_model.specs.Frames.{Item, head_in, kind_of, status_in, reply_fault, request_fault, request_in, reply_in}
-use Rattle.flat_model.specs.Handling.{latest}
-use Rattle.flat_model.specs.Hearing.{hearing}
-use Rattle.flat_model.specs.Issue.{issue_fault}
-use Rattle.flat_model.specs.Nodes.{Node, NodeStep, Said, Gives, IsBusy, node_after, said_to, step_item}
-use Rattle.flat_model.specs.Order.{is_fence}
-use Rattle.flat_model.specs.Pages.{page_of}
+use Rattle.frame_model.proofs.ReplyFrameLemmas.{replies_are_read_again}
+use Rattle.frame_model.proofs.RequestFrameLemmas.{requests_are_read_again}
+use Rattle.trace.specs.Account.{Account, Carried, Effect, Frame, Load, Asks, Answers, asks_next, end_of, extended, found_none, frame_at, is_before, memory_at, next_frame_number, nothing_yet, now, recorded, says, taken_in_order, ticks_of, with_entries, with_entry}
+use Rattle.client_model.specs.Client.{ClientState, ClientCall, ClientPart, Outgoing, Polled, GivesUp, EndsFence, Sends, Idles, Sending, after_issue, after_poll, after_reply, again, anew, fence_first, flight_under, flights, handed_out, has_room_in_flight, head_of, next_id, poll, sendable, to_give_up, to_send, to_send_again}
+use Rattle.cl_types.specs.Parts.{same_client}
+use Rattle.cl_types.specs.Written.{call_of, expanded}
+use Rattle.trace.specs.Clients.{client_at, pid_of}
+use Rattle.trace.specs.Events.{account, account_from, account_of_latest, effect, handed, if_live, if_there, next_account, nothing_happens, on_call, on_delivery, on_flight, on_found_page, on_frame, on_garbage, on_judged, on_peek, on_polled, on_reply, sent_text, shown, then_also}
+use Rattle.frame_model.specs.FrameLaws.{ReadsAsReply, ReadsAsRequest}
+use Rattle.frame_model.specs.Frames.{Item, head_in, kind_of, status_in, reply_fault, request_fault, request_in, reply_in}
+use Rattle.node_model.specs.Handling.{latest}
+use Rattle.client_model.specs.Hearing.{hearing}
+use Rattle.client_model.specs.Issue.{issue_fault, after_judged}
+use Rattle.node_model.specs.Nodes.{Node, NodeStep, Said, Gives, IsBusy, node_after, said_to, step_item}
+use Rattle.client_model.specs.Order.{is_fence}
+use Rattle.cl_types.specs.Pages.{page_of}
 use Rattle.flat_model.specs.Run.{after, changing_of}
 use Rattle.flat_model.specs.State.{Page, opening, page_at, used}
-use Rattle.account_laws.specs.Following.{after_delivered, after_event, after_frame, after_heard, after_judged, after_load}
-use Rattle.account_laws.specs.NodeLines.{NodeFollows, items_carried, node_after_delivered, node_after_event, node_after_frame, node_after_load, node_at, on_all_said, on_said, record_at}
-use Rattle.account_laws.specs.ReadSchedules.{IsGood, has_client, is_of_clients}
-use Rattle.account_laws.specs.Schedules.{IsRisingFrom}
-use Rattle.account_laws.specs.Spelled.{IsLookOf, SpellsLoad, heard_as}
-use Rattle.account_laws.proofs.Following.{clients_follow}
-use Rattle.account_laws.proofs.Induction.{past}
-use Rattle.account_laws.proofs.Insert.{all_before}
-use Rattle.account_laws.proofs.Lists.{case_of_map, first_case, none_some, slice_get_within, slice_get_there}
-use Rattle.account_laws.proofs.Moments.{clock_extended, now_clock}
-use Rattle.account_laws.proofs.NodeLines.{map-append, map-length, nodes_follow, rising_front, slice_get-map}
-use Rattle.account_laws.proofs.OnceKept.{Base, base_later, base_of_account}
-use Rattle.account_laws.proofs.PartsOnce.{ReplyStands}
-use Rattle.account_laws.proofs.Ran.{Ran}
-use Rattle.account_laws.proofs.SameParts.{eqb_is, same_clients}
-use Rattle.account_laws.proofs.Spelled.{frames_are_spelled, replies_are_heard, rises_from_zero}
-use Rattle.account_laws.proofs.TimesKept.{frame_at_each}
-use Rattle.account_laws.proofs.WindowKept.{one_account}
+use Rattle.client_laws.specs.Following.{after_delivered, after_event, after_frame, after_heard, after_load}
+use Rattle.trace_laws.specs.NodeLines.{NodeFollows, items_carried, node_after_delivered, node_after_event, node_after_frame, node_after_load, node_at, on_all_said, on_said, record_at}
+use Rattle.trace.specs.Schedules.{IsGood, has_client, is_of_clients, IsRisingFrom}
+use Rattle.trace_laws.specs.Spelled.{IsLookOf, SpellsLoad, heard_as}
+use Rattle.client_laws.proofs.Following.{clients_follow}
+use Rattle.trace_laws.proofs.Induction.{past}
+use Rattle.trace_laws.proofs.Insert.{all_before}
+use Rattle.lemmas.proofs.Lists.{case_of_map, none_some, slice_get_within, slice_get_there}
+use Rattle.client_laws.proofs.Entries.{first_case}
+use Rattle.trace_laws.proofs.Moments.{clock_extended, now_clock}
+use Rattle.trace_laws.proofs.NodeLines.{map-append, map-length, nodes_follow, rising_front, slice_get-map}
+use Rattle.trace_laws.proofs.OnceKept.{Base, base_later, base_of_account}
+use Rattle.trace_laws.proofs.PartsOnce.{ReplyStands}
+use Rattle.trace_laws.proofs.Ran.{Ran}
+use Rattle.lemmas.proofs.SameParts.{eqb_is, same_clients}
+use Rattle.trace_laws.proofs.Spelled.{frames_are_spelled, replies_are_heard, rises_from_zero}
+use Rattle.trace_laws.proofs.TimesKept.{frame_at_each}
+use Rattle.trace_laws.proofs.WindowKept.{one_account}
 use Rattle.world.specs.declared.note.Note.{Note}
 use Rattle.world.specs.Worlds.{World, Stepped, arrived, call_judged, client_heard, client_in, deliver, delivered, garbage, node_judged, node_said, node_stepped, note_on, peeked, polled, frame_shown, shows, step, taken_entry, with_client, with_found, with_next}
 use Rattle.world.specs.Follows.{HaveNotes, IsNoteOf, IsReadOff, StandsOn, WorldsFollow, sent_as}

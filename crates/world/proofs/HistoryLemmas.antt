@@ -4,8 +4,8 @@ use Rattle.std.specs.Prelude.{slice_get}
 use Rattle.std.specs.List.{AllByRecursion as Each, insert, position_or_len}
 use Rattle.std.proofs.lemmas.Bool.Decides.{nat_tests}
 use Rattle.cl_types.specs.declared.line.Entry.{Entry}
-use Rattle.flat_model.specs.Account.{is_before, with_entry}
-use Rattle.flat_model.specs.Properties.{IsInOrder}
+use Rattle.trace.specs.Account.{is_before, with_entry}
+use Rattle.trace.specs.Properties.{IsInOrder}
 
 -- ---- places
 module _ (l q : ℕ) where

@@ -13,10 +13,10 @@ use Rattle.cl_types.specs.declared.numbers.CallNo.{CallNo}
 use Rattle.cl_types.specs.declared.schedule.CallText.TheVariants as text
 use Rattle.cl_types.specs.declared.schedule.Written.{Written}
 use Rattle.client_core.specs.Answers.{issue_answer, issue_state}
-use Rattle.flat_model.specs.Client.{ClientState}
-use Rattle.flat_model.specs.Clients.{call_of, expanded}
-use Rattle.flat_model.specs.Faults.{first_fault}
-use Rattle.flat_model.specs.Issue.{as_far_as_told, bytes_faults, call_faults}
+use Rattle.client_model.specs.Client.{ClientState}
+use Rattle.cl_types.specs.Written.{call_of, expanded}
+use Rattle.frame_model.specs.Faults.{first_fault}
+use Rattle.client_model.specs.Issue.{as_far_as_told, bytes_faults, call_faults}
 use Rattle.world.specs.Saying.{issue_did}
 
 -- more bytes than a call may have

@@ -5,9 +5,9 @@ use Rattle.cl_types.specs.declared.reply.Part.{Part}
 use Rattle.client_core.specs.Answers.{heard_answer, heard_as}
 use Rattle.client_core.specs.declared.answers.Heard.{Heard}
 use Rattle.client_core.specs.declared.answers.Heard.TheVariants as heard
-use Rattle.flat_model.specs.Client.{ClientState}
-use Rattle.flat_model.specs.Frames.{reply_fault}
-use Rattle.flat_model.specs.Hearing.{Hearing, HearsBad, HearsOther, HearsLate, HearsUnfit, HearsReply, heard_judged, hearing}
+use Rattle.client_model.specs.Client.{ClientState}
+use Rattle.frame_model.specs.Frames.{reply_fault}
+use Rattle.client_model.specs.Hearing.{Hearing, HearsBad, HearsOther, HearsLate, HearsUnfit, HearsReply, heard_judged, hearing}
 use Rattle.world.specs.Saying.{state_heard}
 
 pub as_heard : (s : ClientState) (bytes : List ℕ) → heard_as s bytes ≡ hearing s bytes

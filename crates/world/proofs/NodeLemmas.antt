@@ -10,11 +10,11 @@ use Rattle.cl_types.specs.declared.line.Did.TheVariants as did
 use Rattle.cl_types.specs.declared.reply.Part.{Part}
 use Rattle.cl_types.specs.declared.reply.Reply.{Reply}
 use Rattle.cl_types.specs.declared.request.Request.{Request}
-use Rattle.flat_model.proofs.ReplyFrameLemmas.{replies_are_read_again}
-use Rattle.flat_model.specs.FrameLaws.{ReadsAsReply, ReadsAsRequest}
-use Rattle.flat_model.specs.Frames.{IsHead, Item, head_in, is_reply_of, kind_of, reply_frame, reply_in, request_fault, request_in, status_in}
-use Rattle.flat_model.specs.Handling.{latest}
-use Rattle.flat_model.specs.Nodes.{Node, NodeStep, Said as NodeSaid, Gives, IsBusy, Refuses, answer_judged, items_judged, node_after, node_answer, node_given, step_item}
+use Rattle.frame_model.proofs.ReplyFrameLemmas.{replies_are_read_again}
+use Rattle.frame_model.specs.FrameLaws.{ReadsAsReply, ReadsAsRequest}
+use Rattle.frame_model.specs.Frames.{IsHead, Item, head_in, is_reply_of, kind_of, reply_frame, reply_in, request_fault, request_in, status_in}
+use Rattle.node_model.specs.Handling.{latest}
+use Rattle.node_model.specs.Nodes.{Node, NodeStep, Said as NodeSaid, Gives, IsBusy, Refuses, answer_judged, items_judged, node_after, node_answer, node_given, step_item}
 use Rattle.node_core.specs.Keeping.{IsCarried, Tells, TellsSaid}
 use Rattle.node_core.specs.declared.outcome.Outcome.{Outcome}
 use Rattle.node_core.specs.declared.outcome.Outcome.TheVariants as outcome

@@ -17,23 +17,24 @@ use Rattle.cl_types.specs.declared.reply.Part.{Part}
 use Rattle.cl_types.specs.declared.request.Request.{Request}
 use Rattle.cl_types.specs.declared.schedule.Event.{Event}
 use Rattle.cl_types.specs.declared.schedule.Event.TheVariants as event
-use Rattle.flat_model.specs.Apart.{AreApart}
-use Rattle.flat_model.specs.Client.{ClientState, Polled, GivesUp, EndsFence, Sends, Idles, after_issue, after_poll, after_reply, handed_out, poll, same_client}
-use Rattle.flat_model.specs.Clients.{call_of}
-use Rattle.flat_model.specs.Frames.{Item, head_in, request_fault, request_in}
-use Rattle.flat_model.specs.Handling.{latest}
-use Rattle.flat_model.specs.Hearing.{Hearing, HearsBad, HearsOther, HearsLate, HearsUnfit, HearsReply, hearing}
-use Rattle.flat_model.specs.Issue.{issue_fault}
-use Rattle.flat_model.specs.Nodes.{Node, Said, Gives, IsBusy, step_item}
-use Rattle.flat_model.specs.Properties.{IsInOrder}
+use Rattle.client_model.specs.Apart.{AreApart}
+use Rattle.client_model.specs.Client.{ClientState, Polled, GivesUp, EndsFence, Sends, Idles, after_issue, after_poll, after_reply, handed_out, poll}
+use Rattle.cl_types.specs.Parts.{same_client}
+use Rattle.cl_types.specs.Written.{call_of}
+use Rattle.frame_model.specs.Frames.{Item, head_in, request_fault, request_in}
+use Rattle.node_model.specs.Handling.{latest}
+use Rattle.client_model.specs.Hearing.{Hearing, HearsBad, HearsOther, HearsLate, HearsUnfit, HearsReply, hearing}
+use Rattle.client_model.specs.Issue.{issue_fault}
+use Rattle.node_model.specs.Nodes.{Node, Said, Gives, IsBusy, step_item}
+use Rattle.trace.specs.Properties.{IsInOrder}
 use Rattle.link_sim.specs.Got.{Found, Live, Expired, Absent, found_at}
 use Rattle.link_sim.specs.LinkFrames.{LinkFrames, SentFrame, frame_at, next_handed, next_number}
 use Rattle.world.specs.declared.note.Note.{Note}
 use Rattle.world.specs.Fields.{IsSound, IsWithin, numbers_of}
 use Rattle.world.specs.Running.{IsFair}
 use Rattle.world.specs.Worlds.{World, Stepped, arrived, call_judged, client_heard, client_in, client_stands, deliver, delivered, entered, entry_of, node_judged, node_said, note_on, polled, sends_frame, shows, step, taken_entry, with_client, with_found, with_next}
-use Rattle.account_laws.proofs.Insert.{sorted_with_entry}
-use Rattle.account_laws.proofs.Lists.{each_weaker}
+use Rattle.trace_laws.proofs.Insert.{sorted_with_entry}
+use Rattle.lemmas.proofs.Lists.{each_weaker}
 
 -- ---- clients
 within_later : (n m t u : ℕ) → n ≤ m → t ≤ u → (s : ClientState) → IsWithin n t s → IsWithin m u s

@@ -5,12 +5,11 @@ use Rattle.cl_types.specs.declared.config.Config.{Config}
 use Rattle.cl_types.specs.declared.line.EventLine.{EventLine}
 use Rattle.cl_types.specs.declared.line.Summary.{Summary}
 use Rattle.cl_types.specs.declared.schedule.Event.{Event}
-use Rattle.account_laws.specs.ReadSchedules.{IsGood}
-use Rattle.account_laws.specs.Schedules.{IsRisingFrom}
-use Rattle.flat_model.specs.Account.{Account, Effect, extended, nothing_yet}
-use Rattle.flat_model.specs.Events.{account_of_latest, effect}
-use Rattle.flat_model.specs.Handling.{latest}
-use Rattle.flat_model.specs.Summaries.{summary_of}
+use Rattle.trace.specs.Schedules.{IsGood, IsRisingFrom}
+use Rattle.trace.specs.Account.{Account, Effect, extended, nothing_yet}
+use Rattle.trace.specs.Events.{account_of_latest, effect}
+use Rattle.node_model.specs.Handling.{latest}
+use Rattle.trace.specs.Summaries.{summary_of}
 use Rattle.world.specs.Follows.{IsReadOff, StandsFor, StandsOn, TellsLine, last_line}
 use Rattle.world.specs.Running.{Running, stepped, summed_on}
 use Rattle.world.specs.Summed.{summed}

@@ -13,12 +13,13 @@ use Rattle.cl_types.specs.declared.line.EventLine.{EventLine}
 use Rattle.cl_types.specs.declared.numbers.ClientNo.{ClientNo}
 use Rattle.cl_types.specs.declared.request.Request.{Request}
 use Rattle.client_core.specs.Answers.{heard_as, issue_state}
-use Rattle.flat_model.specs.Apart.{AreApart}
-use Rattle.flat_model.specs.Client.{ClientState, Polled, GivesUp, EndsFence, Sends, Idles, after_issue, after_poll, after_reply, handed_out, poll, same_client}
-use Rattle.flat_model.specs.Handling.{latest}
-use Rattle.flat_model.specs.Hearing.{Hearing, HearsBad, HearsOther, HearsLate, HearsUnfit, HearsReply, hearing}
-use Rattle.flat_model.specs.Issue.{issue_fault}
-use Rattle.flat_model.specs.Nodes.{Node, node_answer, node_given}
+use Rattle.client_model.specs.Apart.{AreApart}
+use Rattle.client_model.specs.Client.{ClientState, Polled, GivesUp, EndsFence, Sends, Idles, after_issue, after_poll, after_reply, handed_out, poll}
+use Rattle.cl_types.specs.Parts.{same_client}
+use Rattle.node_model.specs.Handling.{latest}
+use Rattle.client_model.specs.Hearing.{Hearing, HearsBad, HearsOther, HearsLate, HearsUnfit, HearsReply, hearing}
+use Rattle.client_model.specs.Issue.{issue_fault}
+use Rattle.node_model.specs.Nodes.{Node, node_answer, node_given}
 use Rattle.link_sim.specs.Got.{Live, found_at}
 use Rattle.link_sim.specs.LinkFrames.{frame_at}
 use Rattle.world.specs.declared.ask.Said.{Said}

@@ -11,9 +11,9 @@ use Rattle.cl_types.specs.declared.line.Summary.{Summary}
 use Rattle.cl_types.specs.declared.reply.Answer.{Answer}
 use Rattle.cl_types.specs.declared.reply.Answer.TheVariants as answer
 use Rattle.cl_types.specs.declared.schedule.Event.{Event}
-use Rattle.flat_model.specs.Account.{Account, Effect, Line, extended}
-use Rattle.flat_model.specs.Clients.{says_issued}
-use Rattle.flat_model.specs.Summaries.{answers, is_done, is_refused, is_timed_out, issued_count, summary_of}
+use Rattle.trace.specs.Account.{Account, Effect, Line, extended}
+use Rattle.trace.specs.Clients.{says_issued}
+use Rattle.trace.specs.Summaries.{answers, is_done, is_refused, is_timed_out, issued_count, summary_of}
 use Rattle.world.specs.Summed.{HasRoom, IsWithinLine, ended_count, summed, with_answer, with_did, with_ended, with_unended}
 
 -- ---- one line more

@@ -2,10 +2,10 @@
 use Rattle.std.specs.Prelude.{ℕ, ◌*◌, ◌≡◌, ◌≤◌, List, [], length, map}
 use Rattle.std.specs.List.{AllByRecursion as Each}
 use Rattle.cl_types.specs.declared.numbers.ClientNo.{ClientNo}
-use Rattle.flat_model.specs.Client.{ClientState, new_client}
-use Rattle.flat_model.specs.Nodes.{Node}
-use Rattle.flat_model.specs.Properties.{IsInOrder}
-use Rattle.flat_model.specs.Apart.{AreApart}
+use Rattle.client_model.specs.Client.{ClientState, new_client}
+use Rattle.node_model.specs.Nodes.{Node}
+use Rattle.trace.specs.Properties.{IsInOrder}
+use Rattle.client_model.specs.Apart.{AreApart}
 use Rattle.indexmap.specs.IndexMap.{IndexMap, keys, values}
 use Rattle.world.specs.declared.whole.Whole.{Whole}
 use Rattle.world.specs.Worlds.{World}

@@ -4,16 +4,16 @@ use Rattle.cl_types.specs.declared.config.Config.{Config}
 use Rattle.cl_types.specs.declared.line.EventLine.{EventLine}
 use Rattle.cl_types.specs.declared.schedule.Event.{Event}
 use Rattle.link_sim.specs.LinkFrames.{SentFrame}
-use Rattle.flat_model.specs.Account.{Account, Carried, Frame, Load, Asks, Answers, end_of, taken_in_order}
-use Rattle.flat_model.specs.Client.{new_client}
-use Rattle.flat_model.specs.Clients.{client_at, pid_of}
-use Rattle.flat_model.specs.Events.{account_of_latest, effect}
-use Rattle.flat_model.specs.Handling.{latest}
-use Rattle.flat_model.specs.Nodes.{opening_node}
-use Rattle.flat_model.specs.Summaries.{summary_of}
-use Rattle.account_laws.specs.NodeLines.{node_at}
-use Rattle.account_laws.specs.ReadSchedules.{IsGood}
-use Rattle.account_laws.specs.Times.{clock}
+use Rattle.trace.specs.Account.{Account, Carried, Frame, Load, Asks, Answers, end_of, taken_in_order}
+use Rattle.client_model.specs.Client.{new_client}
+use Rattle.trace.specs.Clients.{client_at, pid_of}
+use Rattle.trace.specs.Events.{account_of_latest, effect}
+use Rattle.node_model.specs.Handling.{latest}
+use Rattle.node_model.specs.Nodes.{opening_node}
+use Rattle.trace.specs.Summaries.{summary_of}
+use Rattle.trace_laws.specs.NodeLines.{node_at}
+use Rattle.trace.specs.Schedules.{IsGood}
+use Rattle.trace_laws.specs.Times.{clock}
 use Rattle.world.specs.declared.note.Note.{Note}
 use Rattle.world.specs.Running.{Running}
 use Rattle.world.specs.Summed.{nothing_counted}

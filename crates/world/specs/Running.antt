@@ -5,7 +5,7 @@ use Rattle.cl_types.specs.declared.line.EventLine.{EventLine}
 use Rattle.cl_types.specs.declared.line.Summary.{Summary}
 use Rattle.cl_types.specs.declared.schedule.Event.{Event}
 use Rattle.cl_types.specs.declared.schedule.Event.TheVariants as event
-use Rattle.flat_model.specs.Apart.{AreApart}
+use Rattle.client_model.specs.Apart.{AreApart}
 use Rattle.data_path.specs.Access.{IsPiece}
 use Rattle.world.specs.Summed.{summed}
 use Rattle.world.specs.Worlds.{World, Stepped}

@@ -13,11 +13,11 @@ use Rattle.cl_types.specs.declared.numbers.ClientNo.{ClientNo}
 use Rattle.cl_types.specs.declared.reply.Part.{Part}
 use Rattle.cl_types.specs.declared.reply.Reply.{Reply}
 use Rattle.cl_types.specs.declared.request.Request.{Request}
-use Rattle.flat_model.specs.Account.{with_entry}
-use Rattle.flat_model.specs.Client.{ClientState, Polled, GivesUp, EndsFence, Sends, Idles, after_poll, after_reply, end_told, handed_out, head_of}
-use Rattle.flat_model.specs.Frames.{Item, head_in, kind_of, reply_fault, reply_frame, reply_in, request_frame, request_in, status_in}
-use Rattle.flat_model.specs.Hearing.{Hearing, HearsBad, HearsOther, HearsLate, HearsUnfit, HearsReply}
-use Rattle.flat_model.specs.Nodes.{Said as NodeSaid, Gives, IsBusy, NodeAnswer, Refuses, Says}
+use Rattle.trace.specs.Account.{with_entry}
+use Rattle.client_model.specs.Client.{ClientState, Polled, GivesUp, EndsFence, Sends, Idles, after_poll, after_reply, end_told, handed_out, head_of}
+use Rattle.frame_model.specs.Frames.{Item, head_in, kind_of, reply_fault, reply_frame, reply_in, request_frame, request_in, status_in}
+use Rattle.client_model.specs.Hearing.{Hearing, HearsBad, HearsOther, HearsLate, HearsUnfit, HearsReply}
+use Rattle.node_model.specs.Nodes.{Said as NodeSaid, Gives, IsBusy, NodeAnswer, Refuses, Says}
 use Rattle.link_sim.specs.Got.{Found, Live, Expired, Absent}
 use Rattle.node_core.specs.declared.outcome.Outcome.{Outcome}
 use Rattle.node_core.specs.declared.outcome.Outcome.TheVariants as outcome

@@ -21,16 +21,17 @@ use Rattle.cl_types.specs.declared.schedule.Event.{Event}
 use Rattle.cl_types.specs.declared.schedule.Event.TheVariants as event
 use Rattle.link_sim.specs.Got.{Found, Live, Expired, Absent, found_at}
 use Rattle.link_sim.specs.LinkFrames.{LinkFrames, SentFrame, frame_at, next_handed, next_number, sent_on}
-use Rattle.flat_model.specs.Account.{with_entry}
-use Rattle.flat_model.specs.Client.{ClientState, Polled, GivesUp, EndsFence, Sends, after_issue, after_poll, after_reply, end_told, handed_out, head_of, poll, same_client}
-use Rattle.flat_model.specs.Clients.{call_of, expanded}
-use Rattle.flat_model.specs.Events.{sent_text}
-use Rattle.flat_model.specs.Frames.{Item, head_in, kind_of, reply_fault, reply_frame, reply_in, request_fault, request_frame, request_in, status_in}
-use Rattle.flat_model.specs.Handling.{latest}
-use Rattle.flat_model.specs.Hearing.{Hearing, HearsBad, HearsOther, HearsLate, HearsUnfit, HearsReply, hearing}
-use Rattle.flat_model.specs.Issue.{issue_fault}
-use Rattle.flat_model.specs.Nodes.{Node, NodeStep, Said, Gives, IsBusy, step_item}
-use Rattle.flat_model.specs.Pages.{offset_of, page_of}
+use Rattle.trace.specs.Account.{with_entry}
+use Rattle.client_model.specs.Client.{ClientState, Polled, GivesUp, EndsFence, Sends, after_issue, after_poll, after_reply, end_told, handed_out, head_of, poll}
+use Rattle.cl_types.specs.Parts.{same_client}
+use Rattle.cl_types.specs.Written.{call_of, expanded}
+use Rattle.trace.specs.Events.{sent_text}
+use Rattle.frame_model.specs.Frames.{Item, head_in, kind_of, reply_fault, reply_frame, reply_in, request_fault, request_frame, request_in, status_in}
+use Rattle.node_model.specs.Handling.{latest}
+use Rattle.client_model.specs.Hearing.{Hearing, HearsBad, HearsOther, HearsLate, HearsUnfit, HearsReply, hearing}
+use Rattle.client_model.specs.Issue.{issue_fault}
+use Rattle.node_model.specs.Nodes.{Node, NodeStep, Said, Gives, IsBusy, step_item}
+use Rattle.cl_types.specs.Pages.{offset_of, page_of}
 use Rattle.flat_model.specs.State.{Page, bytes_of, page_at, used}
 use Rattle.world.specs.declared.note.Note.{Note}
 

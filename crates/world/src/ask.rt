@@ -2,9 +2,9 @@
 
 ghost use Rattle.std.specs.Prelude.{◌≡◌, ◌<◌, ◌≤◌, None, IfOk, length};
 ghost use Rattle.cl_types.specs.Requests.{request_of};
-ghost use Rattle.flat_model.specs.Frames.{IsHead, head_in, reply_fault, reply_in, request_in};
-ghost use Rattle.flat_model.specs.Handling.{latest};
-ghost use Rattle.flat_model.specs.Nodes.{Said as NodeSaid, node_answer, node_given};
+ghost use Rattle.frame_model.specs.Frames.{IsHead, head_in, reply_fault, reply_in, request_in};
+ghost use Rattle.node_model.specs.Handling.{latest};
+ghost use Rattle.node_model.specs.Nodes.{Said as NodeSaid, node_answer, node_given};
 ghost use Rattle.node_core.specs.Keeping.{Tells, TellsSaid, item_of};
 ghost use Rattle.world.specs.Saying.{IsReadable, IsSaid, IsSaidTo, IsShort, IsShortSaid, made_in};
 

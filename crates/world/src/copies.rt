@@ -3,7 +3,7 @@
 ghost use Rattle.std.specs.Prelude.{◌≡◌, IfOk};
 ghost use Rattle.cl_types.specs.Bytes.{zeros as zeros_of};
 ghost use Rattle.cl_types.specs.Requests.{reply_of as reply_lent, request_of as request_lent};
-ghost use Rattle.flat_model.specs.Clients.{call_of as call_written, expanded};
+ghost use Rattle.cl_types.specs.Written.{call_of as call_written, expanded};
 
 use cl_types::call::Call;
 use cl_types::items::{Bytes, NoMemory};

@@ -1,9 +1,9 @@
 //! The whole before the first event.
 
 ghost use Rattle.std.specs.Prelude.{◌≡◌, ◌≤◌, ◌++◌, [], ◌∷◌, None, Err, IfErr, IfOk, MatchOption, OnOk, map, nat_eq};
-ghost use Rattle.flat_model.specs.Client.{new_client};
+ghost use Rattle.client_model.specs.Client.{new_client};
 ghost use Rattle.flat_model.specs.Opening.{open_fault};
-ghost use Rattle.flat_model.specs.Apart.{AreApart};
+ghost use Rattle.client_model.specs.Apart.{AreApart};
 ghost use Rattle.indexmap.specs.IndexMap.{get, values};
 ghost use Rattle.world.specs.Fields.{AreKeyed, AreSound, world_around, world_of};
 ghost use Rattle.world.specs.Follows.{new_world};
@@ -14,8 +14,8 @@ use cl_types::config::Config;
 use cl_types::items::NoMemory;
 use cl_types::limits::FRAME_ROOM;
 use cl_types::numbers::{ClientNo, Pid};
+use cl_types::open_fault::OpenFault;
 use client_core::Client;
-use flat_model::open_fault::OpenFault;
 use indexmap::IndexMap;
 use link_sim::Link;
 use node_core::Node;

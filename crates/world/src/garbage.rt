@@ -1,8 +1,8 @@
 //! Bytes that spell no frame for their end. They are handed to it all the same, and refused there.
 
 ghost use Rattle.std.specs.Prelude.{◌≡◌, ◌≤◌, IfOk, IsSome, length};
-ghost use Rattle.flat_model.specs.Clients.{expanded};
-ghost use Rattle.flat_model.specs.Frames.{reply_fault, request_fault};
+ghost use Rattle.cl_types.specs.Written.{expanded};
+ghost use Rattle.frame_model.specs.Frames.{reply_fault, request_fault};
 ghost use Rattle.world.specs.Fields.{AreKeyed, world_of};
 ghost use Rattle.world.specs.Running.{stepped};
 ghost use Rattle.world.specs.Worlds.{garbage, shows};

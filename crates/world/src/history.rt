@@ -2,8 +2,8 @@
 
 ghost use Rattle.std.specs.Prelude.{◌≡◌, ◌≤◌, IfOk, OnOk, length, not};
 ghost use Rattle.std.specs.List.{insert, position_or_len};
-ghost use Rattle.flat_model.specs.Account.{is_before, with_entry};
-ghost use Rattle.flat_model.specs.Properties.{IsInOrder};
+ghost use Rattle.trace.specs.Account.{is_before, with_entry};
+ghost use Rattle.trace.specs.Properties.{IsInOrder};
 ghost use Rattle.world.specs.Saying.{entered_in, looked_in, with_look};
 
 use crate::ask::Made;

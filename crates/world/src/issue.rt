@@ -1,10 +1,10 @@
 //! A call of one client.
 
 ghost use Rattle.std.specs.Prelude.{◌≡◌, ◌<◌, Some, None, IfOk, IfSome, OnOk, length, min, ◌^◌, ◌-◌};
-ghost use Rattle.flat_model.specs.Client.{ClientState};
-ghost use Rattle.flat_model.specs.Clients.{call_of as call_written, expanded};
-ghost use Rattle.flat_model.specs.Faults.{first_fault};
-ghost use Rattle.flat_model.specs.Issue.{call_faults, issue_fault};
+ghost use Rattle.client_model.specs.Client.{ClientState};
+ghost use Rattle.cl_types.specs.Written.{call_of as call_written, expanded};
+ghost use Rattle.frame_model.specs.Faults.{first_fault};
+ghost use Rattle.client_model.specs.Issue.{call_faults, issue_fault};
 ghost use Rattle.client_core.specs.Answers.{issue_state};
 ghost use Rattle.world.specs.Saying.{issue_did};
 

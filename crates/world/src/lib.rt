@@ -29,6 +29,6 @@ mod whole;
 mod world;
 
 pub use cl_types::items::NoMemory;
-pub use flat_model::open_fault::OpenFault;
+pub use cl_types::open_fault::OpenFault;
 pub use note::Note;
 pub use world::World;

@@ -1,9 +1,9 @@
 //! A frame at its client.
 
 ghost use Rattle.std.specs.Prelude.{◌≡◌, None, IfOk, OnOk};
-ghost use Rattle.flat_model.specs.Frames.{head_in, reply_fault, reply_in};
+ghost use Rattle.frame_model.specs.Frames.{head_in, reply_fault, reply_in};
 ghost use Rattle.client_core.specs.Answers.{heard_as};
-ghost use Rattle.flat_model.specs.Client.{end_told, handed_out};
+ghost use Rattle.client_model.specs.Client.{end_told, handed_out};
 ghost use Rattle.world.specs.Saying.{IsListened, look_entry, state_heard};
 
 use crate::copies::{copy_of, own_reply};

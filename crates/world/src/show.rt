@@ -2,7 +2,7 @@
 
 ghost use Rattle.std.specs.Prelude.{◌≡◌, ◌+◌, ◌<◌, ◌≤◌, ◌^◌, IfOk, length};
 ghost use Rattle.data_path.specs.Access.{IsPiece};
-ghost use Rattle.flat_model.specs.Pages.{page_of};
+ghost use Rattle.cl_types.specs.Pages.{page_of};
 ghost use Rattle.flat_model.specs.State.{page_at, used};
 ghost use Rattle.link_sim.specs.LinkFrames.{frame_at};
 ghost use Rattle.world.specs.Fields.{world_of};

@@ -1,10 +1,10 @@
 //! Events in which a client or the node takes part.
 
 ghost use Rattle.std.specs.Prelude.{◌≡◌, ◌<◌, ◌≤◌, IfOk, OnOk, length, if◌then◌else◌};
-ghost use Rattle.flat_model.specs.Client.{poll as poll_of};
-ghost use Rattle.flat_model.specs.Clients.{call_of};
-ghost use Rattle.flat_model.specs.Issue.{issue_fault};
-ghost use Rattle.flat_model.specs.Properties.{IsInOrder};
+ghost use Rattle.client_model.specs.Client.{poll as poll_of};
+ghost use Rattle.cl_types.specs.Written.{call_of};
+ghost use Rattle.client_model.specs.Issue.{issue_fault};
+ghost use Rattle.trace.specs.Properties.{IsInOrder};
 ghost use Rattle.link_sim.specs.LinkFrames.{next_number};
 ghost use Rattle.world.specs.Fields.{AreKeyed, IsReady, world_of};
 ghost use Rattle.world.specs.Running.{stepped};

@@ -1,7 +1,7 @@
 //! A poll of one client.
 
 ghost use Rattle.std.specs.Prelude.{◌≡◌, ◌≤◌, [], IfOk, OnOk, length, take};
-ghost use Rattle.flat_model.specs.Client.{after_poll, buffer_of, counted, end_told, handed_out, poll, told};
+ghost use Rattle.client_model.specs.Client.{after_poll, buffer_of, counted, end_told, handed_out, poll, told};
 ghost use Rattle.world.specs.Saying.{IsShortTurn, IsTurned};
 
 use crate::copies::copied;

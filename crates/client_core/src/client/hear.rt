@@ -3,8 +3,8 @@
 ghost use Rattle.std.specs.Prelude.{◌≡◌, ◌==◌, ◌&&◌};
 ghost use Rattle.cl_types.specs.Requests.{request_of, reply_of};
 ghost use Rattle.cl_types.specs.Kinds.{kind_number};
-ghost use Rattle.flat_model.specs.Frames.{kind_of as kind_of_request};
-ghost use Rattle.flat_model.specs.Hearing.{after_hearing, is_as_long as is_as_long_reply};
+ghost use Rattle.frame_model.specs.Frames.{kind_of as kind_of_request};
+ghost use Rattle.client_model.specs.Hearing.{after_hearing, is_as_long as is_as_long_reply};
 ghost use Rattle.client_core.specs.Answers.{heard_answer, heard_as};
 ghost use Rattle.client_core.specs.Valid.{IsValid};
 

@@ -3,7 +3,7 @@
 ghost use Rattle.std.specs.Prelude.{◌≡◌, ◌≤◌, true, List, ℕ, Some, is_some, length, option_map, slice_get, unwrap_or};
 ghost use Rattle.cl_types.specs.Bytes.{with_bytes};
 ghost use Rattle.client_retry.specs.declared.due.Due.TheVariants as due;
-ghost use Rattle.flat_model.specs.Client.{Polled, Idles, after_poll, fence_first, has_room_in_flight, poll as poll_of, sendable, to_give_up, to_send, to_send_again};
+ghost use Rattle.client_model.specs.Client.{Polled, Idles, after_poll, fence_first, has_room_in_flight, poll as poll_of, sendable, to_give_up, to_send, to_send_again};
 ghost use Rattle.client_core.specs.Answers.{poll_answer, poll_bytes};
 ghost use Rattle.client_core.specs.Polls.{Does, Turned, due_in};
 ghost use Rattle.client_core.specs.Valid.{IsValid};

@@ -3,7 +3,7 @@
 ghost use Rattle.std.specs.Prelude.{◌≡◌, ◌+◌, ◌<◌, ◌≤◌, OnOk, OnErr, IsTrue, length, slice_get, vec_capacity, vec_len};
 ghost use Rattle.std.specs.FinMap.Entries.{is_sorted};
 ghost use Rattle.cl_types.specs.Places.{place_cmp};
-ghost use Rattle.flat_model.specs.Pages.{page_of};
+ghost use Rattle.cl_types.specs.Pages.{page_of};
 ghost use Rattle.flat_model.specs.Rows.{keys, put_bytes, with_changed, with_put};
 ghost use Rattle.flat_model.specs.State.{fits, places, places_of};
 ghost use Rattle.flat_model.specs.Step.{mapped, unmapped, with_fresh};

@@ -3,7 +3,7 @@ use Rattle.std.proofs.lemmas.Result.{err_from_is_err_and}
 use Rattle.std.specs.Int.{to_le_bytes, w64}
 use Rattle.cl_types.specs.Bytes.{with_bytes}
 use Rattle.cl_types.specs.declared.reply.Reply.TheVariants.{Word}
-use Rattle.flat_model.specs.Pages.{page_of, offset_of, word_after, word_at}
+use Rattle.cl_types.specs.Pages.{page_of, offset_of, word_after, word_at}
 use Rattle.flat_model.specs.State.{FlatState, Page, bytes_of}
 use Rattle.flat_model.specs.Step.{Outcome, puts, written}
 use Rattle.data_path.specs.Store.{memory_of}

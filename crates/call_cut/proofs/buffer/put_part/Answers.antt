@@ -3,7 +3,7 @@ use Rattle.std.proofs.Common.{◌≡◌, Some, ap, sym, ◌∙◌, slice_get, le
 use Rattle.cl_types.specs.Bytes.{with_bytes}
 use Rattle.cl_types.specs.declared.call.Call.TheVariants.{Read}
 use Rattle.cl_types.specs.declared.reply.Reply.TheVariants.{Got}
-use Rattle.flat_model.specs.Cut.{pieces}
+use Rattle.client_model.specs.Cut.{pieces}
 use Rattle.call_cut.specs.Taking.{call_with}
 use Rattle.call_cut.proofs.Takings.{place_is}
 use Rattle.call_cut.proofs.buffer.put_part.Goals as goal

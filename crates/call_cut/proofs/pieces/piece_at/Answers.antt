@@ -1,6 +1,6 @@
 -- The first of the pieces that are left is the one that was asked for.
 use Rattle.std.proofs.Common.{◌≡◌, arith}
-use Rattle.flat_model.specs.Cut.{pieces}
+use Rattle.client_model.specs.Cut.{pieces}
 use Rattle.call_cut.proofs.PieceLemmas.{walk_step, walk_piece}
 use Rattle.call_cut.proofs.pieces.piece_at.Goals as goal
 

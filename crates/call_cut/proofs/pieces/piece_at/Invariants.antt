@@ -1,6 +1,6 @@
 -- The pieces that are left begin at the offset.
 use Rattle.std.proofs.Common.{drop}
-use Rattle.flat_model.specs.Cut.{pieces}
+use Rattle.client_model.specs.Cut.{pieces}
 use Rattle.call_cut.proofs.PieceLemmas.{HasCome}
 use Rattle.call_cut.proofs.pieces.piece_at.Given as goal
 

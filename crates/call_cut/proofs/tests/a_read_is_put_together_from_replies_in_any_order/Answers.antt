@@ -4,7 +4,7 @@ use Rattle.cl_types.specs.declared.call.Call.{Call}
 use Rattle.cl_types.specs.declared.call.Call.TheVariants as call
 use Rattle.cl_types.specs.declared.reply.Reply.TheVariants.{Got}
 use Rattle.cl_types.specs.declared.request.Request.TheVariants as request
-use Rattle.flat_model.specs.Client.{emptied}
+use Rattle.client_model.specs.Client.{emptied}
 use Rattle.call_cut.proofs.Cuts.{takes_alike}
 use Rattle.call_cut.proofs.tests.a_read_is_put_together_from_replies_in_any_order.Goals as goal
 

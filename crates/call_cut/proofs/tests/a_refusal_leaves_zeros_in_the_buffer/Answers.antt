@@ -5,7 +5,7 @@ use Rattle.cl_types.specs.declared.call.Call.TheVariants as call
 use Rattle.cl_types.specs.declared.reply.Refusal.TheVariants.{NoMapping}
 use Rattle.cl_types.specs.declared.reply.Reply.TheVariants.{Got, Refused}
 use Rattle.cl_types.specs.declared.request.Request.TheVariants as request
-use Rattle.flat_model.specs.Client.{emptied}
+use Rattle.client_model.specs.Client.{emptied}
 use Rattle.call_cut.proofs.Cuts.{takes_alike}
 use Rattle.call_cut.proofs.tests.a_refusal_leaves_zeros_in_the_buffer.Goals as goal
 

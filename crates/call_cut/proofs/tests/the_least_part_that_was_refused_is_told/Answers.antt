@@ -5,7 +5,7 @@ use Rattle.cl_types.specs.declared.call.Call.TheVariants as call
 use Rattle.cl_types.specs.declared.reply.Refusal.TheVariants.{NoMapping, NoPermission}
 use Rattle.cl_types.specs.declared.reply.Reply.TheVariants.{Refused}
 use Rattle.cl_types.specs.declared.request.Request.TheVariants as request
-use Rattle.flat_model.specs.Client.{emptied}
+use Rattle.client_model.specs.Client.{emptied}
 use Rattle.call_cut.proofs.Cuts.{takes_alike}
 use Rattle.call_cut.proofs.tests.the_least_part_that_was_refused_is_told.Goals as goal
 

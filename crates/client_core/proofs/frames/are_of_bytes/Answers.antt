@@ -1,4 +1,4 @@
-use Rattle.flat_model.proofs.RangeLemmas.{all_bytes}
+use Rattle.cl_types.proofs.RangeLemmas.{all_bytes}
 use Rattle.client_core.proofs.frames.are_of_bytes.Goals as goal
 
 pub returns : goal.returns

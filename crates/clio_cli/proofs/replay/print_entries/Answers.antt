@@ -1,5 +1,5 @@
 use Rattle.std.proofs.Common.{◌∙◌}
-use Rattle.flat_model.specs.Texts.{entry_text}
+use Rattle.texts.specs.Texts.{entry_text}
 use Rattle.clio_cli.proofs.GatherLemmas.{at_err, entries_front, entries_more}
 use Rattle.clio_cli.proofs.replay.print_entries.Goals as goal
 

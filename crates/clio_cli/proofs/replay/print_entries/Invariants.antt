@@ -1,6 +1,6 @@
 use Rattle.std.proofs.Common.{◌≡◌, ◌++◌, take}
 use Rattle.std.specs.Prelude.{flat_map}
-use Rattle.flat_model.specs.Texts.{entry_text}
+use Rattle.texts.specs.Texts.{entry_text}
 use Rattle.clio_cli.specs.Gathered.{Gathered}
 use Rattle.clio_cli.proofs.replay.print_entries.Given as goal
 

@@ -1,7 +1,7 @@
 use Rattle.std.proofs.Common.{◌++◌, append_assoc, length}
 use Rattle.std.specs.Prelude.{flat_map}
 use Rattle.std.proofs.lemmas.Result.{on_err_weaker}
-use Rattle.flat_model.specs.Texts.{entry_text}
+use Rattle.texts.specs.Texts.{entry_text}
 use Rattle.clio_cli.specs.Replay.{end_text, history_text}
 use Rattle.clio_cli.proofs.GatherLemmas.{front_of, front_on}
 use Rattle.clio_cli.proofs.replay.print_history.Goals as goal

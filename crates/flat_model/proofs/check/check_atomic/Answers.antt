@@ -1,7 +1,7 @@
 use Rattle.std.proofs.Common.{◌∙◌, ap}
 use Rattle.std.specs.Int.{to_le_bytes, w64}
 use Rattle.flat_model.proofs.CheckLemmas.{checks_refused, checks_atomic, checks_no_atomic, opened_within, wants_atomic}
-use Rattle.flat_model.specs.Pages.{offset_of, word_at, word_after}
+use Rattle.cl_types.specs.Pages.{offset_of, word_at, word_after}
 use Rattle.flat_model.specs.Rows.{put_bytes}
 use Rattle.flat_model.specs.State.{bytes_of}
 use Rattle.flat_model.specs.Step.{may_change, puts}

@@ -1,7 +1,7 @@
 -- The body stands behind the header.
 use Rattle.std.proofs.Common.{List, ℕ, ◌≤◌, length, arith}
 use Rattle.cl_types.specs.Requests.{request_of}
-use Rattle.flat_model.specs.Frames.{request_body}
+use Rattle.frame_model.specs.Frames.{request_body}
 use Rattle.frame_codec.proofs.WriterLemmas.{frame_written}
 use Rattle.frame_codec.proofs.request_writer.write_request.Goals as goal
 

@@ -1,5 +1,5 @@
 use Rattle.std.proofs.Common.{◌≡◌, ◌+◌, length}
-use Rattle.flat_model.specs.Text.{lines_in}
+use Rattle.texts.specs.Text.{lines_in}
 use Rattle.schedule_text.proofs.lines.has_too_many_lines.Given as goal
 
 abbrev pub invariant-loop-line : goal.invariant-loop-line

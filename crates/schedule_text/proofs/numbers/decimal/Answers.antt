@@ -1,5 +1,5 @@
 use Rattle.std.proofs.Common.{◌-◌, ◌^◌}
-use Rattle.flat_model.specs.Words.{is_digit}
+use Rattle.texts.specs.Words.{is_digit}
 use Rattle.schedule_text.proofs.DigitLemmas.{spelled_stop}
 use Rattle.schedule_text.proofs.numbers.decimal.Goals as goal
 

@@ -1,5 +1,5 @@
 use Rattle.std.proofs.Common.{◌^◌}
-use Rattle.flat_model.specs.Words.{hex_value, is_hex_digit}
+use Rattle.texts.specs.Words.{hex_value, is_hex_digit}
 use Rattle.schedule_text.proofs.DigitLemmas.{spelled_stop}
 use Rattle.schedule_text.proofs.numbers.hexadecimal.Goals as goal
 

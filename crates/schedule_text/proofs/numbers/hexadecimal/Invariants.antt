@@ -1,5 +1,5 @@
 use Rattle.std.proofs.Common.{◌≡◌, ◌^◌, take, Some}
-use Rattle.flat_model.specs.Words.{hex_value, is_hex_digit}
+use Rattle.texts.specs.Words.{hex_value, is_hex_digit}
 use Rattle.schedule_text.specs.Digits.{spelled}
 use Rattle.schedule_text.proofs.numbers.hexadecimal.Given as goal
 

@@ -1,6 +1,6 @@
 use Rattle.std.proofs.Common.{sym, ◌∙◌, ap, List}
-use Rattle.flat_model.specs.Text.{Text, lines_in}
-use Rattle.flat_model.specs.Grammar.{schedule_from}
+use Rattle.texts.specs.Text.{Text, lines_in}
+use Rattle.texts.specs.Grammar.{schedule_from}
 use Rattle.schedule_text.proofs.ReadingLemmas.{schedule_bad, schedule_end}
 use Rattle.schedule_text.proofs.schedule.read.Goals as goal
 

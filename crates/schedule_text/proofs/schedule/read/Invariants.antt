@@ -1,6 +1,6 @@
 use Rattle.std.proofs.Common.{◌≡◌, ◌+◌, ◌≤◌, length}
-use Rattle.flat_model.specs.Text.{lines_in}
-use Rattle.flat_model.specs.Grammar.{nothing_read, schedule_from}
+use Rattle.texts.specs.Text.{lines_in}
+use Rattle.texts.specs.Grammar.{nothing_read, schedule_from}
 use Rattle.schedule_text.proofs.schedule.read.Given as goal
 
 abbrev pub invariant-loop-rest : goal.invariant-loop-rest

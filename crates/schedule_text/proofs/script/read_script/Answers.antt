@@ -1,5 +1,5 @@
 use Rattle.std.proofs.Common.{sym, ◌∙◌, ap, List}
-use Rattle.flat_model.specs.Text.{Text}
+use Rattle.texts.specs.Text.{Text}
 use Rattle.schedule_text.proofs.ScriptLemmas.{script_end, script_stop, with_lines}
 use Rattle.schedule_text.proofs.script.read_script.Goals as goal
 

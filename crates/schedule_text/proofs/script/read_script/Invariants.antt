@@ -1,5 +1,5 @@
 use Rattle.std.proofs.Common.{◌≡◌, ◌+◌, ◌≤◌, [], length}
-use Rattle.flat_model.specs.Text.{lines_in}
+use Rattle.texts.specs.Text.{lines_in}
 use Rattle.schedule_text.proofs.ScriptLemmas.{with_lines}
 use Rattle.schedule_text.proofs.script.read_script.Given as goal
 

@@ -1,6 +1,6 @@
 use Rattle.std.proofs.Common.{◌≡◌, take, true}
 use Rattle.std.specs.List.{list_all}
-use Rattle.flat_model.specs.Words.{is_hex_digit}
+use Rattle.texts.specs.Words.{is_hex_digit}
 use Rattle.schedule_text.proofs.written.are_hex.Given as goal
 
 abbrev pub invariant-loop-b : goal.invariant-loop-b

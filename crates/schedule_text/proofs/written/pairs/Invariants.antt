@@ -1,6 +1,6 @@
 use Rattle.std.proofs.Common.{◌≡◌, ◌++◌, length, true}
 use Rattle.std.specs.List.{list_all}
-use Rattle.flat_model.specs.Words.{bytes_of_pairs, is_hex_digit}
+use Rattle.texts.specs.Words.{bytes_of_pairs, is_hex_digit}
 use Rattle.schedule_text.proofs.written.pairs.Given as goal
 
 abbrev pub invariant-loop-rest : goal.invariant-loop-rest

@@ -1,5 +1,5 @@
 use Rattle.std.proofs.Common.{subst, sym}
-use Rattle.flat_model.specs.Frames.{Item}
+use Rattle.frame_model.specs.Frames.{Item}
 use Rattle.node_core.specs.Keeping.{TellsSaid, item_of}
 use Rattle.node_core.specs.declared.outcome.Outcome.{Outcome}
 use Rattle.world.specs.declared.ask.Made.{Made}

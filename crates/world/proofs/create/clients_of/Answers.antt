@@ -3,7 +3,7 @@ use Rattle.std.proofs.Common.{◌≡◌, ℕ, List, ◌∷◌, ◌++◌, [], ap,
 use Rattle.std.specs.Map.{keys_of, lookup, values_of}
 use Rattle.std.proofs.lemmas.List.{take_all}
 use Rattle.std.proofs.lemmas.Option.{slice_get_read}
-use Rattle.flat_model.specs.Client.{ClientState}
+use Rattle.client_model.specs.Client.{ClientState}
 use Rattle.world.specs.Fields.{numbers_of}
 use Rattle.world.proofs.Beginning.{entered_keys, entered_next, entered_values, entry_of, fresh}
 use Rattle.world.proofs.create.clients_of.Goals as goal

@@ -1,6 +1,6 @@
 -- A client for each that was passed, under its number.
 use Rattle.std.proofs.Common.{◌≡◌, map, take}
-use Rattle.flat_model.specs.Client.{new_client}
+use Rattle.client_model.specs.Client.{new_client}
 use Rattle.world.proofs.create.clients_of.Given as goal
 
 abbrev pub invariant-loop-no : goal.invariant-loop-no

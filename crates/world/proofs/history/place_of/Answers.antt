@@ -2,7 +2,7 @@
 use Rattle.std.proofs.Common.{ℕ, ◌+◌, ◌-◌, ◌<◌, ◌≤◌, refl, sym, ◌∙◌, length, not, arith}
 use Rattle.std.specs.List.{position_or_len}
 use Rattle.std.proofs.lemmas.Option.{slice_get_read}
-use Rattle.flat_model.specs.Account.{is_before}
+use Rattle.trace.specs.Account.{is_before}
 use Rattle.world.proofs.HistoryLemmas.{place_down, place_up, place_within}
 use Rattle.world.proofs.history.place_of.Goals as goal
 

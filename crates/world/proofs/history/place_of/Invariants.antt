@@ -1,7 +1,7 @@
 -- The place is at most the one that was reached.
 use Rattle.std.proofs.Common.{◌≤◌, length, not}
 use Rattle.std.specs.List.{position_or_len}
-use Rattle.flat_model.specs.Account.{is_before}
+use Rattle.trace.specs.Account.{is_before}
 use Rattle.world.proofs.history.place_of.Given as goal
 
 abbrev pub invariant-loop-at : goal.invariant-loop-at

@@ -1,7 +1,7 @@
 use Rattle.std.proofs.Common.{List, ap, not, ◌∙◌}
 use Rattle.std.specs.List.{insert, position_or_len}
 use Rattle.cl_types.specs.declared.line.Entry.{Entry}
-use Rattle.flat_model.specs.Account.{is_before}
+use Rattle.trace.specs.Account.{is_before}
 use Rattle.world.proofs.HistoryLemmas.{inserted}
 use Rattle.world.proofs.history.put_in_place.Goals as goal
 

@@ -1,7 +1,7 @@
 use Rattle.std.proofs.Common.{◌≡◌, subst}
 use Rattle.cl_types.specs.declared.call.Call.{Call}
 use Rattle.cl_types.specs.declared.line.Did.TheVariants as did
-use Rattle.flat_model.specs.Issue.{issue_fault}
+use Rattle.client_model.specs.Issue.{issue_fault}
 use Rattle.world.specs.Saying.{issue_did}
 use Rattle.world.proofs.IssueLemmas.{told_fault}
 use Rattle.world.proofs.issue.issue.Goals as goal

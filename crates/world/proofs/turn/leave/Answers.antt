@@ -1,5 +1,5 @@
 use Rattle.std.proofs.Common.{refl, sym, ap, ◌∙◌, subst, ◌<◌, length}
-use Rattle.flat_model.specs.Client.{ClientState, handed_out}
+use Rattle.client_model.specs.Client.{ClientState, handed_out}
 use Rattle.world.proofs.TurnLemmas.{left_none, left_some}
 use Rattle.world.proofs.turn.leave.Goals as goal
 

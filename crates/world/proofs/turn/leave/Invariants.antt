@@ -1,6 +1,6 @@
 -- What is left to hand out grows less.
 use Rattle.std.proofs.Common.{◌≡◌, length}
-use Rattle.flat_model.specs.Client.{handed_out}
+use Rattle.client_model.specs.Client.{handed_out}
 use Rattle.world.proofs.turn.leave.Given as goal
 
 abbrev pub invariant-loop : goal.invariant-loop

@@ -1,5 +1,5 @@
 use Rattle.std.proofs.Common.{◌∙◌}
-use Rattle.flat_model.specs.Client.{poll}
+use Rattle.client_model.specs.Client.{poll}
 use Rattle.world.proofs.TurnLemmas.{sent}
 use Rattle.world.proofs.turn.turn.Goals as goal
 

@@ -1,7 +1,7 @@
 use Rattle.std.proofs.Common.{◌≡◌, ap, false, ◌∙◌, subst, sym, Some}
 use Rattle.std.specs.Prelude.{option_map}
-use Rattle.flat_model.specs.Cut.{GivenUp}
-use Rattle.flat_model.specs.Order.{is_fence}
+use Rattle.client_model.specs.Cut.{GivenUp}
+use Rattle.client_model.specs.Order.{is_fence}
 use Rattle.client_core.specs.Held.{Held}
 use Rattle.client_core.specs.Valid.{AreRising}
 use Rattle.client_core.proofs.Edits.{Goes, came_so, each_at, is_at, kept_set, numbers_set, others_set, print_came, set_there}

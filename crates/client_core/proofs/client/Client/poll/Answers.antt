@@ -1,5 +1,5 @@
 use Rattle.std.proofs.Common.{ap, sym}
-use Rattle.flat_model.specs.Client.{at_moment}
+use Rattle.client_model.specs.Client.{at_moment}
 use Rattle.client_core.proofs.Doing.{polled, sound_later}
 use Rattle.client_core.proofs.client.Client.poll.Goals as goal
 

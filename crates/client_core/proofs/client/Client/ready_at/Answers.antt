@@ -1,5 +1,5 @@
 use Rattle.std.proofs.Common.{◌∙◌, ap, sym}
-use Rattle.flat_model.specs.Order.{ready_in}
+use Rattle.client_model.specs.Order.{ready_in}
 use Rattle.client_core.proofs.Deciding.{prints_in}
 use Rattle.client_core.proofs.client.Client.ready_at.Goals as goal
 

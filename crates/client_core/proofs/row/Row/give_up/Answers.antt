@@ -1,5 +1,5 @@
 use Rattle.std.proofs.Common.{arith, rules, subst, sym}
-use Rattle.flat_model.specs.Cut.{GivenUp}
+use Rattle.client_model.specs.Cut.{GivenUp}
 use Rattle.client_core.proofs.RowLemmas.{came_within, row_waits, row_came}
 use Rattle.client_core.proofs.row.Row.give_up.Goals as goal
 

@@ -1,6 +1,6 @@
 use Rattle.std.proofs.Common.{arith, rules, subst, sym}
 use Rattle.cl_types.specs.Requests.{reply_of}
-use Rattle.flat_model.specs.Cut.{Replied}
+use Rattle.client_model.specs.Cut.{Replied}
 use Rattle.client_core.proofs.RowLemmas.{row_waits, row_came}
 use Rattle.client_core.proofs.row.Row.take.Goals as goal
 

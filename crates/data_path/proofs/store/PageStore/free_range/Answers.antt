@@ -8,7 +8,7 @@ use Rattle.page_pool.specs.PoolPages.{free_list}
 use Rattle.range_alloc.specs.Ranges.{AreRanges, AreTaken, span_at}
 use Rattle.range_alloc.proofs.Fitting.{some_pages}
 use Rattle.range_alloc.proofs.Ranges.{page_mapped}
-use Rattle.flat_model.specs.Pages.{page_of}
+use Rattle.cl_types.specs.Pages.{page_of}
 use Rattle.flat_model.specs.Step.{Outcome, free, free_if, unmapped}
 use Rattle.data_path.specs.declared.store.PageStore.{PageStore}
 use Rattle.data_path.specs.Store.{memory_of, IsWhole}

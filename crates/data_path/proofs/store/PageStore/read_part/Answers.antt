@@ -2,7 +2,7 @@ use Rattle.std.proofs.Common.{◌≡◌, ◌<◌, ◌≤◌, ◌+◌, ℕ, lengt
 use Rattle.std.proofs.lemmas.Result.{err_from_is_err_and}
 use Rattle.cl_types.specs.Bytes.{bytes_at}
 use Rattle.cl_types.specs.declared.reply.Reply.TheVariants.{Got}
-use Rattle.flat_model.specs.Pages.{offset_of}
+use Rattle.cl_types.specs.Pages.{offset_of}
 use Rattle.flat_model.specs.State.{Page, bytes_of}
 use Rattle.flat_model.specs.Step.{Outcome}
 use Rattle.data_path.specs.declared.store.PageStore.{PageStore}

@@ -1,7 +1,7 @@
 use Rattle.std.proofs.Common.{◌∙◌, sym, ap}
 use Rattle.std.proofs.lemmas.Result.{err_from_is_err_and}
 use Rattle.cl_types.specs.declared.reply.Reply.TheVariants.{Nothing}
-use Rattle.flat_model.specs.Pages.{page_of}
+use Rattle.cl_types.specs.Pages.{page_of}
 use Rattle.flat_model.specs.State.{Page}
 use Rattle.flat_model.specs.Step.{Outcome, puts}
 use Rattle.data_path.specs.Store.{memory_of}

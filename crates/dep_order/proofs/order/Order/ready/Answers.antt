@@ -1,6 +1,6 @@
 use Rattle.std.proofs.Common.{◌≡◌, length, sym, ap, ◌∙◌, arith, rules, subst}
 use Rattle.std.specs.Vec.{vec_len}
-use Rattle.flat_model.specs.Order.{may_go}
+use Rattle.client_model.specs.Order.{may_go}
 use Rattle.dep_order.specs.declared.row.Row.{Row}
 use Rattle.dep_order.specs.Rows.{print_of}
 use Rattle.dep_order.specs.WaitLists.{AreFit}

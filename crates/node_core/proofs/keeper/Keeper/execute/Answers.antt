@@ -2,8 +2,8 @@
 use Rattle.std.proofs.Common.{◌≤◌, refl, ap, ◌∙◌, subst, arith, rules, length-take}
 use Rattle.std.specs.Prelude.{IsTrue}
 use Rattle.cl_types.specs.declared.reply.Reply.{Reply}
-use Rattle.flat_model.specs.Frames.{Item, is_reply_of, kind_of, reply_frame}
-use Rattle.flat_model.specs.Handling.{item_outcome}
+use Rattle.frame_model.specs.Frames.{Item, is_reply_of, kind_of, reply_frame}
+use Rattle.node_model.specs.Handling.{item_outcome}
 use Rattle.flat_model.specs.State.{FlatState}
 use Rattle.node_core.specs.Keeping.{KeptNode, item_of}
 use Rattle.node_core.proofs.Recorded.{MayNote, executed, may_note, named_apart, shown, sound_noted}

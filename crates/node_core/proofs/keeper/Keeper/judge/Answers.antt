@@ -1,7 +1,7 @@
 -- The buffer tells how the request is handled.
 use Rattle.std.proofs.Common.{◌≡◌, true, refl, sym, ◌∙◌}
 use Rattle.cl_types.specs.Requests.{is_changing}
-use Rattle.flat_model.specs.Frames.{Item}
+use Rattle.frame_model.specs.Frames.{Item}
 use Rattle.node_core.specs.Keeping.{item_of}
 use Rattle.node_core.proofs.Recorded.{looked, repeated, shown, unrecorded_by_look}
 use Rattle.node_core.proofs.keeper.Keeper.judge.Goals as goal

@@ -1,7 +1,7 @@
 -- A request that changes nothing leaves the machine.
 use Rattle.std.proofs.Common.{◌≡◌, false, refl, ap, ◌∙◌}
 use Rattle.cl_types.specs.Requests.{is_changing, request_of}
-use Rattle.flat_model.specs.Frames.{Item, reply_frame, status_in}
+use Rattle.frame_model.specs.Frames.{Item, reply_frame, status_in}
 use Rattle.flat_model.specs.State.{FlatState}
 use Rattle.flat_model.specs.Step.{outcome}
 use Rattle.node_core.specs.Fields.{kept_node}

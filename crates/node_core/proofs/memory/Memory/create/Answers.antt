@@ -2,7 +2,7 @@
 use Rattle.std.proofs.Common.{rules, ◌≡◌, IfErr, map, ap, ◌∙◌}
 use Rattle.data_path.specs.Store.{flat_of, memory_of}
 use Rattle.flat_model.specs.Objects.{empty_object}
-use Rattle.flat_model.specs.declared.open_fault.OpenFault.TheVariants.{NoMemory}
+use Rattle.cl_types.specs.declared.open_fault.OpenFault.TheVariants.{NoMemory}
 use Rattle.flat_model.specs.Opening.{open_fault}
 use Rattle.flat_model.specs.State.{FlatState, opening}
 use Rattle.node_core.proofs.Begun.{opening_begun}

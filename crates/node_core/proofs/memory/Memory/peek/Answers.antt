@@ -1,7 +1,7 @@
 -- A page's entry tells its bytes.
 use Rattle.std.proofs.Common.{◌≡◌, ℕ, ◌+◌, ◌≤◌, length, Some, None, option_map, sym, ap, ◌∙◌, arith}
 use Rattle.cl_types.specs.Bytes.{bytes_at}
-use Rattle.flat_model.specs.Pages.{offset_of, page_of}
+use Rattle.cl_types.specs.Pages.{offset_of, page_of}
 use Rattle.flat_model.specs.State.{Page, bytes_of}
 use Rattle.data_path.specs.Store.{page_in}
 use Rattle.data_path.proofs.Framing.{frame_within}

@@ -1,6 +1,6 @@
 use Rattle.std.proofs.Common.{List, ap, ◌∙◌}
-use Rattle.flat_model.specs.Client.{ClientState}
-use Rattle.flat_model.specs.Clients.{call_of}
+use Rattle.client_model.specs.Client.{ClientState}
+use Rattle.cl_types.specs.Written.{call_of}
 use Rattle.world.specs.Fields.{world_of}
 use Rattle.world.specs.Running.{stepped}
 use Rattle.world.proofs.ClientLemmas.{keyed_after, written}

@@ -1,6 +1,6 @@
 use Rattle.std.proofs.Common.{◌≤◌, List, Ok, ap, map, refl, subst, sym, ℕ, ◌∙◌}
 use Rattle.cl_types.specs.declared.numbers.ClientNo.{ClientNo}
-use Rattle.flat_model.specs.Apart.{AreApart}
+use Rattle.client_model.specs.Apart.{AreApart}
 use Rattle.flat_model.specs.Opening.{open_fault}
 use Rattle.node_core.specs.Keeping.{KeptNode}
 use Rattle.world.specs.Fields.{world_around}

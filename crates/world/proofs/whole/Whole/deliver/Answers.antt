@@ -1,5 +1,5 @@
 use Rattle.std.proofs.Common.{◌≡◌, List, Some, ap, sym, subst, ◌∙◌}
-use Rattle.flat_model.specs.Client.{ClientState}
+use Rattle.client_model.specs.Client.{ClientState}
 use Rattle.node_core.specs.Keeping.{KeptNode}
 use Rattle.world.specs.Fields.{AreKeyed, world_of}
 use Rattle.world.specs.Saying.{listened_step}

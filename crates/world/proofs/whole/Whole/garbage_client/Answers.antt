@@ -1,6 +1,6 @@
 use Rattle.std.proofs.Common.{List, ap, set, ◌∙◌}
-use Rattle.flat_model.specs.Client.{ClientState}
-use Rattle.flat_model.specs.Frames.{reply_fault}
+use Rattle.client_model.specs.Client.{ClientState}
+use Rattle.frame_model.specs.Frames.{reply_fault}
 use Rattle.world.specs.Fields.{world_of}
 use Rattle.world.specs.Running.{stepped}
 use Rattle.world.specs.Worlds.{garbage}

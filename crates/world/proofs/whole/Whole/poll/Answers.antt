@@ -1,5 +1,5 @@
 use Rattle.std.proofs.Common.{List, ap, sym, subst, ◌∙◌}
-use Rattle.flat_model.specs.Client.{ClientState}
+use Rattle.client_model.specs.Client.{ClientState}
 use Rattle.world.specs.Fields.{AreKeyed, world_of}
 use Rattle.world.specs.Saying.{turned_step}
 use Rattle.world.proofs.ClientLemmas.{keyed_after, written}

@@ -1,6 +1,6 @@
 -- The client under the number is the client of the number, and was given no later moment than the world.
 use Rattle.std.proofs.Common.{◌≡◌, ◌≤◌, Option, None, ap, is_some, subst, sym, ◌∙◌}
-use Rattle.flat_model.specs.Client.{ClientState}
+use Rattle.client_model.specs.Client.{ClientState}
 use Rattle.world.specs.Fields.{IsWithin, world_of}
 use Rattle.world.specs.Running.{Running}
 use Rattle.world.specs.Worlds.{client_in}

@@ -1,6 +1,6 @@
 -- The client under the number is the client of the number.
 use Rattle.std.proofs.Common.{Option, ap, is_some, ◌∙◌}
-use Rattle.flat_model.specs.Client.{ClientState}
+use Rattle.client_model.specs.Client.{ClientState}
 use Rattle.world.specs.Running.{Running}
 use Rattle.world.specs.Worlds.{client_in}
 use Rattle.world.proofs.ClientLemmas.{found_under}

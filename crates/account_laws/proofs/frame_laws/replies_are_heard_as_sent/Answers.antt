@@ -1,5 +1,0 @@
-use Rattle.account_laws.proofs.Spelled.{replies_are_heard}
-use Rattle.account_laws.proofs.frame_laws.replies_are_heard_as_sent.Goals as goal
-
-pub returns : goal.returns
-returns c = replies_are_heard

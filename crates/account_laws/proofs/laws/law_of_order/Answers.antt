@@ -1,5 +1,0 @@
-use Rattle.account_laws.proofs.OrderKept.{law_of_order}
-use Rattle.account_laws.proofs.laws.law_of_order.Goals as goal
-
-pub returns : goal.returns
-returns c = law_of_order

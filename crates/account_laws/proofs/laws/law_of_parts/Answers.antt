@@ -1,5 +1,0 @@
-use Rattle.account_laws.proofs.AnswersKept.{law_of_parts}
-use Rattle.account_laws.proofs.laws.law_of_parts.Goals as goal
-
-pub returns : goal.returns
-returns c = law_of_parts

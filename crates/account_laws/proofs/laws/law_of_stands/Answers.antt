@@ -1,5 +1,0 @@
-use Rattle.account_laws.proofs.StandsKept.{law_of_stands}
-use Rattle.account_laws.proofs.laws.law_of_stands.Goals as goal
-
-pub returns : goal.returns
-returns c = law_of_stands

@@ -1,5 +1,0 @@
-use Rattle.account_laws.proofs.WindowKept.{law_of_window}
-use Rattle.account_laws.proofs.laws.law_of_window.Goals as goal
-
-pub returns : goal.returns
-returns c = law_of_window

@@ -1,5 +1,0 @@
-use Rattle.account_laws.proofs.WindowKept.{one_account}
-use Rattle.account_laws.proofs.laws.one_account_for_the_other.Goals as goal
-
-pub returns : goal.returns
-returns c = one_account

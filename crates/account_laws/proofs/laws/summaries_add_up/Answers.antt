@@ -1,5 +1,0 @@
-use Rattle.account_laws.proofs.AddsUp.{summaries_add_up}
-use Rattle.account_laws.proofs.laws.summaries_add_up.Goals as goal
-
-pub returns : goal.returns
-returns c = summaries_add_up

@@ -1,0 +1,13 @@
+pub mod Items
+pub mod Standings
+pub mod CallsOfClient
+pub mod ClientLines
+pub mod Readiness
+pub mod StateRead
+pub mod Cases
+pub mod Premises
+pub mod Fences
+pub mod ReadyCalls
+pub mod Following
+pub mod JunkHeard
+pub mod Entries

@@ -1,6 +1,0 @@
--- The law is the lemma of its name.
-use Rattle.flat_model.proofs.FaultlessRequestLemmas.{faultless_requests_are_spelled}
-use Rattle.flat_model.proofs.frame_laws.faultless_requests_are_spelled.Goals as goal
-
-pub returns : goal.returns
-returns c = faultless_requests_are_spelled

@@ -1,6 +1,0 @@
--- The law is the lemma of its name.
-use Rattle.flat_model.proofs.ItemFrameLemmas.{frames_are_read_again}
-use Rattle.flat_model.proofs.frame_laws.frames_are_read_again.Goals as goal
-
-pub returns : goal.returns
-returns c = frames_are_read_again

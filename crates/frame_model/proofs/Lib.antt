@@ -1,0 +1,9 @@
+pub mod FrameLemmas
+pub mod RequestFrameLemmas
+pub mod ReplyFrameLemmas
+pub mod ByteLemmas
+pub mod FaultlessFrameLemmas
+pub mod FaultlessRequestLemmas
+pub mod FaultlessReplyLemmas
+pub mod FrameKindLemmas
+pub mod ItemFrameLemmas

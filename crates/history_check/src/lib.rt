@@ -1,0 +1,2 @@
+//! The grammar of histories. Its code is not written yet.
+#![tactic(auto)]

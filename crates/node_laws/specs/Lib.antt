@@ -1,0 +1,5 @@
+pub mod Span
+pub mod Retained
+pub mod Locks
+pub mod RepliesFit
+pub mod Junk

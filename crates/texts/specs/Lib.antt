@@ -1,0 +1,5 @@
+pub mod Text
+pub mod Texts
+pub mod Words
+pub mod Grammar
+pub mod Commands

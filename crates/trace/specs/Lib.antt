@@ -1,0 +1,7 @@
+pub mod Account
+pub mod Clients
+pub mod Events
+pub mod Properties
+pub mod Summaries
+pub mod Schedules
+pub mod HistoryLaws

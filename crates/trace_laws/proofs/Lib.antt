@@ -1,0 +1,16 @@
+pub mod Moments
+pub mod TimesKept
+pub mod Reading
+pub mod Places
+pub mod Insert
+pub mod Ran
+pub mod Joined
+pub mod CutRanges
+pub mod RunKept
+pub mod PartsOnce
+pub mod Parts
+pub mod Induction
+pub mod OnceKept
+pub mod WindowKept
+pub mod NodeLines
+pub mod Spelled

@@ -1,0 +1,5 @@
+pub mod NodeLines
+pub mod Times
+pub mod Runs
+pub mod Window
+pub mod Spelled

@@ -1,0 +1,2 @@
+pub mod ReadSchedules
+pub mod Transcripts

@@ -1,0 +1,4 @@
+pub mod Outside
+pub mod Serving
+pub mod Driving
+pub mod Printing
