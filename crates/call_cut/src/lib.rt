@@ -19,6 +19,3 @@ mod pieces;
 pub use gather::Gather;
 pub use outcome::Outcome;
 pub use pieces::{part, parts};
-
-#[cfg(test)]
-mod tests;

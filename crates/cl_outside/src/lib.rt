@@ -19,8 +19,6 @@ mod memory;
 mod real;
 mod sink;
 mod source;
-#[cfg(test)]
-mod tests;
 mod wire;
 
 pub use clock::Clock;

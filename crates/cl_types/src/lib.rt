@@ -22,5 +22,3 @@ pub mod schedule;
 pub mod small_reply;
 pub mod space;
 pub mod steps;
-#[cfg(test)]
-mod tests;

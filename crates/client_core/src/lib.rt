@@ -23,6 +23,3 @@ mod row;
 pub use answers::{Heard, Poll};
 pub use cl_types::frame::IssueFault;
 pub use client::Client;
-
-#[cfg(test)]
-mod tests;

@@ -21,6 +21,3 @@ mod walk;
 pub use due::Due;
 pub use flight::Flight;
 pub use flown::Flown;
-
-#[cfg(test)]
-mod tests;

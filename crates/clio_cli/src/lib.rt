@@ -19,8 +19,6 @@ mod laws;
 mod left;
 mod replay;
 mod status;
-#[cfg(test)]
-mod tests;
 mod top;
 mod words;
 

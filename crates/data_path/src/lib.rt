@@ -17,8 +17,6 @@ mod part;
 mod range;
 mod space;
 mod store;
-#[cfg(test)]
-mod tests;
 
 pub use create::CACHED_ENTRIES;
 pub use need::Need;

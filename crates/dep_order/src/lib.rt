@@ -20,6 +20,3 @@ mod wait_lists;
 mod walk;
 
 pub use order::Order;
-
-#[cfg(test)]
-mod tests;

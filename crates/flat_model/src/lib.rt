@@ -23,5 +23,3 @@ mod rows;
 pub mod run_laws;
 pub mod start_laws;
 mod store;
-#[cfg(test)]
-mod tests;

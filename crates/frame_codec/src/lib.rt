@@ -19,8 +19,6 @@ mod reply_reader;
 mod reply_writer;
 mod request_reader;
 mod request_writer;
-#[cfg(test)]
-mod tests;
 mod views;
 
 pub use crate::headers::HEADER_BYTES;

@@ -14,7 +14,5 @@
 
 mod buckets;
 mod table;
-#[cfg(test)]
-mod tests;
 
 pub use table::Table;

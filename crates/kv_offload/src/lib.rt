@@ -19,8 +19,6 @@
 
 mod kv;
 mod layout;
-#[cfg(test)]
-mod tests;
 
 pub use kv::Kv;
 pub use layout::{KEY_BYTES, VALUE_BYTES};

@@ -137,35 +137,3 @@ impl Link {
         Some(self.handed_out)
     }
 }
-
-#[cfg(test)]
-mod tests {
-    use super::*;
-    use cl_types::numbers::ClientNo;
-    use std::test::Fail;
-
-    #[test]
-    fn a_frame_expires_at_age_100(rt: HostRuntime) -> Result<(), Fail> {
-        let mut link = Link::create(rt.alloc())?;
-        assert_eq!(rt; link.send(0, End::Node, b"abc", 4)?, 1);
-        assert_eq!(rt; link.send(7, End::Client(ClientNo(1)), b"", 5)?, 2);
-        let live = Got::Live {
-            bytes: b"abc",
-            end: End::Node,
-            line: 4,
-        };
-        let cases = [
-            (99, 1, live),
-            (100, 1, Got::Expired { sent: 0 }),
-            (107, 2, Got::Expired { sent: 7 }),
-            (107, 0, Got::Absent),
-            (107, 3, Got::Absent),
-        ];
-        for (now, frame, want) in cases {
-            assert_eq!(rt; link.get(now, frame), want, "frame {frame} at {now}");
-        }
-        let handed_out = [link.next(), link.next(), link.next()];
-        assert_eq!(rt; handed_out, [Some(1), Some(2), None]);
-        Ok(())
-    }
-}

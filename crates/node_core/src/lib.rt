@@ -24,8 +24,6 @@ mod offloads;
 mod outcome;
 mod pages;
 mod placed;
-#[cfg(test)]
-mod tests;
 
 pub use node::Node;
 pub use outcome::Outcome;

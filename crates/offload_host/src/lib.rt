@@ -13,7 +13,5 @@ mod host;
 pub mod laws;
 mod operation;
 mod store;
-#[cfg(test)]
-mod tests;
 
 pub use host::Host;

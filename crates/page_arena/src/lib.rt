@@ -83,20 +83,3 @@ impl PageArena {
         self.page_mut(i).fill(0);
     }
 }
-
-#[cfg(test)]
-mod tests {
-    use super::*;
-    use std::test::Fail;
-
-    #[test]
-    fn writes_and_zeroes_one_page(rt: HostRuntime) -> Result<(), Fail> {
-        let mut arena = PageArena::create(rt.alloc(), 2)?;
-        arena.page_mut(1)[4095] = 7;
-        assert_eq!(rt; arena.page(1)[4095], 7);
-        assert_eq!(rt; arena.page(0)[4095], 0);
-        arena.zero(1);
-        assert_eq!(rt; arena.page(1)[4095], 0);
-        Ok(())
-    }
-}

@@ -13,7 +13,5 @@
 #![tactic(auto)]
 
 mod pool;
-#[cfg(test)]
-mod tests;
 
 pub use pool::Pool;

@@ -16,8 +16,6 @@
 #![tactic(auto)]
 
 mod map;
-#[cfg(test)]
-mod tests;
 mod unmap;
 
 pub use map::map_range;

@@ -17,8 +17,6 @@
 mod chain;
 mod noted;
 mod retry;
-#[cfg(test)]
-mod tests;
 
 pub use noted::Noted;
 pub use retry::{Retry, Young};

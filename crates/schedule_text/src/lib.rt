@@ -25,8 +25,6 @@ mod reading;
 mod said;
 mod schedule;
 mod script;
-#[cfg(test)]
-mod tests;
 mod written;
 
 pub use calls::CallWord;

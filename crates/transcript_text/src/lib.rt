@@ -9,8 +9,6 @@ mod entry;
 mod line;
 mod names;
 mod numbers;
-#[cfg(test)]
-mod tests;
 mod word;
 
 pub use entry::print_entry;

@@ -4,9 +4,6 @@
 //! at most one bucket and takes at most one page, and then reads the word and puts the new one in its place.
 #![tactic(auto)]
 
-#[cfg(test)]
-mod tests;
-
 ghost use Rattle.std.specs.Prelude.{◌≡◌, ◌+◌, ◌%◌, ◌<◌, ◌≤◌, length, IsSome};
 ghost use Rattle.std.specs.Int.{from_le_bytes, w64};
 ghost use Rattle.cl_types.specs.declared.limits.TheConstants.{ADDRESS_END, PAGE_BYTES};

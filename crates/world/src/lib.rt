@@ -22,8 +22,6 @@ mod note;
 mod show;
 mod steps;
 mod summary;
-#[cfg(test)]
-mod tests;
 mod turn;
 mod whole;
 mod world;
