@@ -8,23 +8,6 @@ use Rattle.client_retry.specs.declared.flown.Flown.{Flown}
 use Rattle.client_retry.specs.Flights.{is_before, with_flown, again, sent_again}
 
 -- ---- what a search finds
-pub find_some : (wanted : ℕ → Bool) (xs : List ℕ) (m : ℕ) → find wanted xs ≡ Some m → (has xs m ≡ true) × (wanted m ≡ true)
-find_some wanted [] m h = absurd cc
-find_some wanted (x ∷ xs) m h = elim (cases_Bool (wanted x)) [
-  | inl t ↦ let here : Some x ≡ Some m = rw t at h in let same : x ≡ m = cc in (or_left (eqb m x) (has xs m) (eq-eqb m x (sym same)), ap wanted (sym same) ∙ t)
-  | inr f ↦ let rest : find wanted xs ≡ Some m = rw f at h in let found = find_some wanted xs m rest in (or_right (eqb m x) (has xs m) found.0, found.1)
-]
-
-pub find_none : (wanted : ℕ → Bool) (xs : List ℕ) → find wanted xs ≡ None → (m : ℕ) → has xs m ≡ true → wanted m ≡ false
-find_none wanted [] h m there = absurd cc
-find_none wanted (x ∷ xs) h m there = elim (cases_Bool (wanted x)) [
-  | inl t ↦ absurd (let here : Some x ≡ None = rw t at h in cc)
-  | inr f ↦ let rest : find wanted xs ≡ None = rw f at h in elim (split_eq m x) [
-    | inl e ↦ ap wanted e.0 ∙ f
-    | inr ne ↦ let behind : has xs m ≡ true = rw ne.1 at there in find_none wanted xs rest m behind
-  ]
-]
-
 -- the same found among the parts as among their places
 pub find_there : (at : ℕ → Flown) (wanted : ℕ → Bool) (test : Flown → Bool) (xs : List ℕ) → ((p : ℕ) → has xs p ≡ true → wanted p ≡ test (at p)) → find test (map at xs) ≡ option_map at (find wanted xs)
 find_there at wanted test [] h = refl

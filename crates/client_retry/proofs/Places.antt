@@ -1,44 +1,15 @@
 -- Lists of places after one was put in or taken out.
-use Rattle.std.proofs.Common.{◌≡◌, ◌≢◌, ℕ, zero, suc, ◌+◌, ◌<◌, ◌≤◌, ◌⊎◌, inl, inr, Bool, true, false, not, eqb, List, [], ◌∷◌, ◌++◌, length, drop, Some, None, refl, sym, ap, ◌∙◌, arith, slice_get}
+use Rattle.std.proofs.Common.{◌≡◌, ℕ, zero, suc, ◌+◌, ◌≤◌, ◌⊎◌, inl, inr, Bool, true, false, not, eqb, List, [], ◌∷◌, length, Some, None, refl, sym, ap, ◌∙◌, arith, slice_get}
 use Rattle.std.specs.List.{IsDistinct, insert, position_or_len}
-use Rattle.std.proofs.lemmas.Bool.{cases_Bool, or_cases, or_left, or_right, eq-eqb, eqb-true}
-use Rattle.std.proofs.lemmas.List.{length-set, length-take, get_or-set_same, get_or-set_other}
+use Rattle.std.proofs.lemmas.Bool.{or_cases, or_left, or_right, eq-eqb, eqb-true}
+use Rattle.std.proofs.lemmas.List.{length-take}
 use Rattle.std.proofs.lemmas.List.Folds.{length-prefix_len}
 use Rattle.std.proofs.lemmas.Option.{slice_get-get_or}
-use Rattle.index_lists.specs.NodeLists.{NodeLists, has, list_at, with_list, without, put_after}
+use Rattle.index_lists.specs.NodeLists.{has, put_after}
 use Rattle.index_lists.proofs.Linking.{split_eq}
-use Rattle.index_lists.proofs.Edits.{All-has, without_apart}
+use Rattle.index_lists.proofs.Edits.{All-has}
 use Rattle.client_retry.specs.Walks.{back}
-use Rattle.client_retry.proofs.WalkLemmas.{has_at}
-
--- ---- one list of several
-pub list_at_same : (v : NodeLists) (l : ℕ) (xs : List ℕ) → l < length v.lists → list_at (with_list v l xs) l ≡ xs
-list_at_same v l xs within = get_or-set_same v.lists l xs [] within
-
-pub list_at_other : (v : NodeLists) (l m : ℕ) (xs : List ℕ) → m ≢ l → list_at (with_list v l xs) m ≡ list_at v m
-list_at_other v l m xs ne = get_or-set_other v.lists l m xs [] ne
-
-pub lists_same : (v : NodeLists) (l : ℕ) (xs : List ℕ) → length (with_list v l xs).lists ≡ length v.lists
-lists_same v l xs = length-set v.lists l xs
-
--- ---- put at the end
-pub in_push : (xs : List ℕ) (n m : ℕ) → has (xs ++ n ∷ []) m ≡ true → (has xs m ≡ true) ⊎ (m ≡ n)
-in_push [] n m h = elim (or_cases (eqb m n) false h) [ inl e ↦ inr (eqb-true m n e) | inr f ↦ absurd cc ]
-in_push (x ∷ xs) n m h = elim (or_cases (eqb m x) (has (xs ++ n ∷ []) m) h) [
-  | inl e ↦ inl (or_left (eqb m x) (has xs m) e)
-  | inr t ↦ elim (in_push xs n m t) [ inl old ↦ inl (or_right (eqb m x) (has xs m) old) | inr e ↦ inr e ]
-]
-
-pub push_old : (xs : List ℕ) (n m : ℕ) → has xs m ≡ true → has (xs ++ n ∷ []) m ≡ true
-push_old [] n m h = absurd cc
-push_old (x ∷ xs) n m h = elim (or_cases (eqb m x) (has xs m) h) [
-  | inl e ↦ or_left (eqb m x) (has (xs ++ n ∷ []) m) e
-  | inr t ↦ or_right (eqb m x) (has (xs ++ n ∷ []) m) (push_old xs n m t)
-]
-
-pub push_new : (xs : List ℕ) (n : ℕ) → has (xs ++ n ∷ []) n ≡ true
-push_new [] n = or_left (eqb n n) false (eq-eqb n n refl)
-push_new (x ∷ xs) n = or_right (eqb n x) (has (xs ++ n ∷ []) n) (push_new xs n)
+use Rattle.index_lists.proofs.Members.{has_at}
 
 -- ---- put in at a place
 pub in_insert : (xs : List ℕ) (k n m : ℕ) → has (insert xs k n) m ≡ true → (has xs m ≡ true) ⊎ (m ≡ n)
@@ -87,41 +58,6 @@ put_after_at (x ∷ xs) (suc k) y n apart at = elim (split_eq y x) [
   | inl t ↦ absurd (let never = All-has (λ z. eqb x z ≡ false) xs y apart.0 (has_at xs k y at) in let always = eq-eqb x y (sym t.0) in cc)
   | inr f ↦ rw f.1 (ap (λ (ys : List ℕ). x ∷ ys) (put_after_at xs k y n apart.1 at))
 ]
-
--- ---- taken out
-pub in_without : (n : ℕ) (xs : List ℕ) (m : ℕ) → has (without n xs) m ≡ true → (has xs m ≡ true) × (m ≢ n)
-in_without n [] m h = absurd cc
-in_without n (x ∷ xs) m h = elim (split_eq n x) [
-  | inl t ↦ let rest : has (without n xs) m ≡ true = rw t.1 at h in let old = in_without n xs m rest in (or_right (eqb m x) (has xs m) old.0, old.1)
-  | inr f ↦ let kept : has (x ∷ without n xs) m ≡ true = rw f.1 at h in elim (or_cases (eqb m x) (has (without n xs) m) kept) [
-    | inl e ↦ (or_left (eqb m x) (has xs m) e, λ same. f.0 (sym same ∙ eqb-true m x e))
-    | inr r ↦ let old = in_without n xs m r in (or_right (eqb m x) (has xs m) old.0, old.1)
-  ]
-]
-
-pub without_shorter : (n : ℕ) (xs : List ℕ) → IsDistinct eqb xs → has xs n ≡ true → length (without n xs) + 1 ≡ length xs
-unfolding IsDistinct
-without_shorter n [] apart h = absurd cc
-without_shorter n (x ∷ xs) apart h = elim (split_eq n x) [
-  | inl t ↦
-      let gone : has xs n ≡ false = elim (cases_Bool (has xs n)) [ inl there ↦ absurd (let never = All-has (λ z. eqb x z ≡ false) xs n apart.0 there in let always = eq-eqb x n (sym t.0) in cc) | inr none ↦ none ] in
-      let same = ap (length {A = ℕ}) (without_apart n xs gone) in
-      rw t.1 (omega arith)
-  | inr f ↦
-      let there : has xs n ≡ true = elim (or_cases (eqb n x) (has xs n) h) [ inl e ↦ absurd cc | inr r ↦ r ] in
-      let rest = without_shorter n xs apart.1 there in
-      rw f.1 (omega arith)
-]
-
-pub in_drop : (xs : List ℕ) (m : ℕ) → has (drop 1 xs) m ≡ true → has xs m ≡ true
-in_drop [] m h = absurd cc
-in_drop (x ∷ xs) m h = or_right (eqb m x) (has xs m) h
-
--- the first of distinct numbers is not among the others
-pub first_gone : (xs : List ℕ) (n : ℕ) → IsDistinct eqb xs → Some n ≡ slice_get xs 0 → has (drop 1 xs) n ≡ true → ⊥
-unfolding IsDistinct
-first_gone [] n apart e h = cc
-first_gone (x ∷ xs) n apart e h = let same : n ≡ x = cc in let never = All-has (λ z. eqb x z ≡ false) xs n apart.0 h in let always = eq-eqb x n (sym same) in cc
 
 -- ---- put in behind the place before
 -- at the front, where there is none before

@@ -14,9 +14,9 @@ use Rattle.client_retry.specs.Fields.{IsSound, no_part, flown_at, chain_of, chai
 use Rattle.client_retry.specs.Flights.{with_flown, without as without_orig, again, sent_again}
 use Rattle.client_retry.specs.Slots.{slot_at}
 use Rattle.client_retry.specs.Walks.{is_wanted, is_wanted_there, wanted_at}
-use Rattle.client_retry.proofs.WalkLemmas.{has_at}
-use Rattle.client_retry.proofs.Places.{list_at_same, list_at_other, lists_same, in_push, push_old, push_new, in_insert, insert_old, insert_new, insert_longer, in_without, without_shorter, in_drop, first_gone}
-use Rattle.client_retry.proofs.Flying.{find_some, find_none, find_there, insert_there, without_there, again_there}
+use Rattle.client_retry.proofs.Places.{in_insert, insert_old, insert_new, insert_longer}
+use Rattle.client_retry.proofs.Flying.{find_there, insert_there, without_there, again_there}
+use Rattle.index_lists.proofs.Members.{list_at_same, list_at_other, lists_same, has-push_cases, has-push_old, has-push_new, has-without_cases, length-without, has-drop, first_gone, has_at, find_some, find_none}
 
 -- a place that has a part has a wanted one where the part is
 wanted_there : (w : Wanted) (o : Option Flown) → is_some o ≡ true → is_wanted_there w o ≡ is_wanted w (unwrap_or o no_part)
@@ -168,7 +168,7 @@ module _ {slots : List (Option Flown)} {places chains : NodeLists} {count : ℕ}
         in_old_or_new l p h = elim (cases_eq l (chain_of f.orig)) [
           | inl e ↦
               let here : has (list_at chains (chain_of f.orig) ++ n ∷ []) p ≡ true = ap (λ xs. has xs p) (sym (ap (λ v. list_at v (chain_of f.orig)) ec ∙ list_at_same chains (chain_of f.orig) _ chain_within)) ∙ ap (λ m. has (list_at c2 m) p) (sym e) ∙ h in
-              elim (in_push (list_at chains (chain_of f.orig)) n p here) [ inl old ↦ inl (ap (λ m. has (list_at chains m) p) e ∙ old) | inr same ↦ inr same ]
+              elim (has-push_cases (list_at chains (chain_of f.orig)) n p here) [ inl old ↦ inl (ap (λ m. has (list_at chains m) p) e ∙ old) | inr same ↦ inr same ]
           | inr ne ↦ inl (ap (λ xs. has xs p) (sym (ap (λ v. list_at v l) ec ∙ list_at_other chains (chain_of f.orig) l _ ne)) ∙ h)
         ]
 
@@ -177,12 +177,12 @@ module _ {slots : List (Option Flown)} {places chains : NodeLists} {count : ℕ}
           | inl e ↦
               ap (λ m. has (list_at c2 m) p) e
               ∙ ap (λ xs. has xs p) (ap (λ v. list_at v (chain_of f.orig)) ec ∙ list_at_same chains (chain_of f.orig) _ chain_within)
-              ∙ push_old (list_at chains (chain_of f.orig)) n p (ap (λ m. has (list_at chains m) p) (sym e) ∙ h)
+              ∙ has-push_old (list_at chains (chain_of f.orig)) n p (ap (λ m. has (list_at chains m) p) (sym e) ∙ h)
           | inr ne ↦ ap (λ xs. has xs p) (ap (λ v. list_at v l) ec ∙ list_at_other chains (chain_of f.orig) l _ ne) ∙ h
         ]
 
         joins : IsIn c2 (chain_of f.orig) n
-        joins = ap (λ xs. has xs n) (ap (λ v. list_at v (chain_of f.orig)) ec ∙ list_at_same chains (chain_of f.orig) _ chain_within) ∙ push_new (list_at chains (chain_of f.orig)) n
+        joins = ap (λ xs. has xs n) (ap (λ v. list_at v (chain_of f.orig)) ec ∙ list_at_same chains (chain_of f.orig) _ chain_within) ∙ has-push_new (list_at chains (chain_of f.orig)) n
 
         flies : (p : ℕ) → IsIn p2 0 p → IsIn places 0 p ⊎ (p ≡ n)
         flies p h = in_insert (list_at places 0) k n p (ap (λ xs. has xs p) (sym zero2) ∙ h)
@@ -214,7 +214,7 @@ module _ {slots : List (Option Flown)} {places chains : NodeLists} {count : ℕ}
           vacant = λ p h.
               let rest : has (drop 1 (list_at places 1)) p ≡ true = ap (λ xs. has xs p) (sym one2) ∙ h in
               let ne : p ≢ n = λ e. first_gone (list_at places 1) n (s.places_valid.distinct 1) first (ap (has (drop 1 (list_at places 1))) (sym e) ∙ rest) in
-              slot_other n p (Some f) ne ∙ s.vacant p (in_drop (list_at places 1) p rest);
+              slot_other n p (Some f) ne ∙ s.vacant p (has-drop 1 (list_at places 1) p rest);
           chained = λ p h. elim (flies p h) [
             | inl old ↦ stays (chain_at (set slots n (Some f)) p) p (subst (λ g. IsIn chains (chain_of g.orig) p) (sym (flown_other n p (Some f) (other p old))) (s.chained p old))
             | inr e ↦ subst (λ q. IsIn c2 (chain_at (set slots n (Some f)) q) q) (sym e) (subst (λ (g : Flown). IsIn c2 (chain_of g.orig) n) (sym (flown_same n f new_below)) joins)
@@ -295,7 +295,7 @@ module _ {slots : List (Option Flown)} {places chains : NodeLists} {count : ℕ}
 
     pub out_free : IsFree p1 n
     out_free = λ l. false_from_ne_true _ (λ h. elim (cases_eq l 0) [
-      | inl e ↦ (in_without n (list_at places 0) n (ap (λ xs. has xs n) (sym out_zero1) ∙ ap (λ m. has (list_at p1 m) n) (sym e) ∙ h)).1 refl
+      | inl e ↦ (has-without_cases n (list_at places 0) n (ap (λ xs. has xs n) (sym out_zero1) ∙ ap (λ m. has (list_at p1 m) n) (sym e) ∙ h)).1 refl
       | inr ne ↦ ne (s.places_valid.apart l 0 n (ap (λ xs. has xs n) (sym (out_other1 l ne)) ∙ h) flies)
     ])
 
@@ -336,7 +336,7 @@ module _ {slots : List (Option Flown)} {places chains : NodeLists} {count : ℕ}
       was_there : (l p : ℕ) → IsIn c2 l p → IsIn chains l p × (p ≢ n)
       was_there l p h = elim (cases_eq l (chain_at slots n)) [
         | inl e ↦
-            let kept = in_without n (list_at chains (chain_at slots n)) p (ap (λ xs. has xs p) (sym (ap (λ v. list_at v (chain_at slots n)) out_chain ∙ list_at_same chains (chain_at slots n) _ chain_there)) ∙ ap (λ m. has (list_at c2 m) p) (sym e) ∙ h) in
+            let kept = has-without_cases n (list_at chains (chain_at slots n)) p (ap (λ xs. has xs p) (sym (ap (λ v. list_at v (chain_at slots n)) out_chain ∙ list_at_same chains (chain_at slots n) _ chain_there)) ∙ ap (λ m. has (list_at c2 m) p) (sym e) ∙ h) in
             (ap (λ m. has (list_at chains m) p) e ∙ kept.0, kept.1)
         | inr ne ↦
             let old : IsIn chains l p = ap (λ xs. has xs p) (sym (ap (λ v. list_at v l) out_chain ∙ list_at_other chains (chain_at slots n) l _ ne)) ∙ h in
@@ -344,11 +344,11 @@ module _ {slots : List (Option Flown)} {places chains : NodeLists} {count : ℕ}
       ]
 
       still : (p : ℕ) → IsIn p2 0 p → IsIn places 0 p × (p ≢ n)
-      still p h = in_without n (list_at places 0) p (ap (λ xs. has xs p) (sym out_zero2) ∙ h)
+      still p h = has-without_cases n (list_at places 0) p (ap (λ xs. has xs p) (sym out_zero2) ∙ h)
 
       pub out_sound : IsSound (set slots n None) p2 c2 (count - 1)
       out_sound =
-          let shorter = without_shorter n (list_at places 0) (s.places_valid.distinct 0) flies in
+          let shorter = length-without n (list_at places 0) (s.places_valid.distinct 0) flies in
           record {
             slot_count = length-set slots n None ∙ s.slot_count;
             place_count = ap (λ v. v.nodes) e2 ∙ ap (λ v. v.nodes) out1 ∙ s.place_count;
@@ -360,7 +360,7 @@ module _ {slots : List (Option Flown)} {places chains : NodeLists} {count : ℕ}
             counted = omega (arith, ap (length {A = ℕ}) out_zero2, shorter, s.counted);
             all_listed = omega (arith, ap (length {A = ℕ}) out_zero2, shorter, ap (length {A = ℕ}) out_one2, length_push (list_at places 1) n, s.all_listed);
             filled = λ p h. let old = still p h in ap is_some (slot_other n p None old.1) ∙ s.filled p old.0;
-            vacant = λ p h. elim (in_push (list_at places 1) n p (ap (λ xs. has xs p) (sym out_one2) ∙ h)) [
+            vacant = λ p h. elim (has-push_cases (list_at places 1) n p (ap (λ xs. has xs p) (sym out_one2) ∙ h)) [
               | inl old ↦ slot_other n p None (λ e. not_both n flies (subst (λ q. IsIn places 1 q) e old)) ∙ s.vacant p old
               | inr e ↦ ap (slot_at (set slots n None)) e ∙ slot_same n None (below 0 n flies)
             ];

@@ -1,21 +1,16 @@
 -- A walk along a list of places, one place after the other.
 use Rattle.std.proofs.Common.{◌≡◌, ℕ, zero, suc, ◌+◌, ◌≤◌, Bool, true, false, eqb, List, [], ◌∷◌, length, drop, Option, Some, None, refl, sym, ap, ◌∙◌, arith, inl, inr, slice_get}
 use Rattle.std.specs.List.{IsDistinct, position_or_len}
-use Rattle.std.proofs.lemmas.Bool.{cases_Bool, cases_lt, or_left, or_right, eq-eqb, eqb-true}
+use Rattle.std.proofs.lemmas.Bool.{cases_Bool, cases_lt, eq-eqb, eqb-true}
 use Rattle.std.proofs.lemmas.List.{drop_more, drop_all}
 use Rattle.std.proofs.lemmas.Option.{slice_get_within, slice_get-get_or, slice_get_past, get_or_from_slice_get}
 use Rattle.std.proofs.lemmas.Map.Steps.{length-le_from_distinct_below}
-use Rattle.index_lists.specs.NodeLists.{NodeLists, has, list_at, IsValid, after}
+use Rattle.index_lists.specs.NodeLists.{NodeLists, list_at, IsValid, after}
 use Rattle.index_lists.proofs.Edits.{has-list_any, All-has}
 use Rattle.client_retry.specs.Walks.{back}
+use Rattle.index_lists.proofs.Members.{has_at}
 
 -- ---- lists of numbers
--- what stands at a place of the list is in it
-pub has_at : (xs : List ℕ) (k n : ℕ) → slice_get xs k ≡ Some n → has xs n ≡ true
-has_at [] k n at = absurd cc
-has_at (x ∷ xs) zero n at = let same : x ≡ n = cc in or_left (eqb n x) (has xs n) (eq-eqb n x (sym same))
-has_at (x ∷ xs) (suc k) n at = or_right (eqb n x) (has xs n) (has_at xs k n at)
-
 -- in a list of distinct numbers, what is right behind one stands at the next place
 pub after_at : (xs : List ℕ) (k n : ℕ) → IsDistinct eqb xs → slice_get xs k ≡ Some n → after n xs ≡ slice_get xs (suc k)
 unfolding IsDistinct

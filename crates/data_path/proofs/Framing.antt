@@ -17,7 +17,7 @@ use Rattle.hash_buckets.specs.PageMap.{PageMap, entry_of, with_entry, IsValid}
 use Rattle.index_lists.specs.NodeLists.{has}
 use Rattle.page_arena.specs.Arena.{page_at as arena_page}
 use Rattle.page_pool.specs.PoolPages.{PoolPages, free_list, free_pages, IsTaken, AreZero}
-use Rattle.page_pool.proofs.Members.{has-append_false}
+use Rattle.index_lists.proofs.Members.{has-append_false}
 use Rattle.range_alloc.specs.Ranges.{AreRanges, IsIn, frame_at, span_at}
 use Rattle.range_alloc.proofs.Entries.{entry-with, frame_in, span_in, sorted_table}
 use Rattle.translate_cache.specs.Cached.{Cached}

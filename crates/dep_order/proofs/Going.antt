@@ -11,8 +11,9 @@ use Rattle.dep_order.specs.Fields.{print_at, calls_of, IsSound}
 use Rattle.dep_order.specs.declared.row.Row.{Row}
 use Rattle.dep_order.specs.declared.walk.Wanted.TheVariants.{Number, AwaitedBy}
 use Rattle.dep_order.proofs.Overlaps.{overlap}
-use Rattle.dep_order.proofs.Mapped.{find_some, find_none, all_from, all_broken, any_none, any_one, find_at, this_sought, none_sought}
+use Rattle.dep_order.proofs.Mapped.{all_from, all_broken, any_none, any_one, find_at, this_sought, none_sought}
 use Rattle.dep_order.proofs.Rising.{rising_alone}
+use Rattle.index_lists.proofs.Members.{find_some, find_none}
 
 -- two offloads that conflict are one
 one_offload : (a b : Option (ℕ × Bool)) → offloads_conflict a b ≡ true → (n : ℕ) × (odd odd' : Bool) × ((a ≡ Some (n, odd)) × (b ≡ Some (n, odd')))

@@ -10,7 +10,8 @@ use Rattle.dep_order.specs.declared.walk.Wanted.{Wanted}
 use Rattle.dep_order.specs.declared.walk.Wanted.TheVariants.{Number, AwaitedBy}
 use Rattle.dep_order.specs.Rows.{print_of}
 use Rattle.dep_order.specs.WaitLists.{IsInOrder, number_at, number_wanted, place_of, row_at, wanted_at}
-use Rattle.dep_order.proofs.Walks.{HasCome, rest_from, left_here}
+use Rattle.dep_order.proofs.Walks.{HasCome, left_here}
+use Rattle.index_lists.proofs.Walks.{rest_from}
 
 module _ (number : ℕ → ℕ) where
   above_without : (low n : ℕ) (xs : List ℕ) → AllByRecursion (λ m. low ≤ number m) xs → AllByRecursion (λ m. low ≤ number m) (without n xs)

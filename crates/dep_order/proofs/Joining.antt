@@ -1,11 +1,12 @@
 -- The nodes of a place, put into lists one by one, and taken out.
-use Rattle.std.proofs.Common.{◌≡◌, ◌≢◌, ℕ, ◌+◌, ◌-◌, ◌*◌, ◌<◌, ◌≤◌, ◌⊎◌, inl, inr, true, eqb, List, [], ◌∷◌, ◌++◌, length, Option, Some, None, is_some, IfSome, refl, sym, ap, subst, ◌∙◌, arith, append_assoc, append-nil}
+use Rattle.std.proofs.Common.{◌≡◌, ◌≢◌, ℕ, ◌+◌, ◌-◌, ◌*◌, ◌<◌, ◌≤◌, ◌⊎◌, inl, inr, true, List, [], ◌∷◌, ◌++◌, length, Option, Some, None, is_some, IfSome, refl, sym, ap, subst, ◌∙◌, arith, append_assoc, append-nil}
 use Rattle.std.specs.List.{AllByRecursion}
-use Rattle.std.proofs.lemmas.Bool.{cases_lt, cases_eq, or_cases, or_left, or_right, false_from_ne_true}
+use Rattle.std.proofs.lemmas.Bool.{cases_lt, cases_eq, false_from_ne_true}
 use Rattle.index_lists.specs.NodeLists.{NodeLists, has, list_at, IsIn, IsFree, IsHeld, IsValid, with_list}
 use Rattle.dep_order.specs.WaitLists.{place_of, IsGrown, IsInOrder, Stands}
 use Rattle.index_lists.proofs.Edits.{All-has}
-use Rattle.dep_order.proofs.Listed.{lists_same, pushed_here, pushed_there, pushed_old, pushed_new}
+use Rattle.dep_order.proofs.Listed.{pushed_here, pushed_there, pushed_old, pushed_new}
+use Rattle.index_lists.proofs.Members.{has-append_left, has-append_cases, lists_same}
 
 -- the nodes are those from `low` on to before `high`
 abbrev pub AreAmong : ℕ → ℕ → List ℕ → Type 0
@@ -31,27 +32,13 @@ grown_twice low mid mid' high xs ys zs le le' le'' a b =
 pub grown_wider : (low high more : ℕ) (xs ys : List ℕ) → high ≤ more → IsGrown low high xs ys → IsGrown low more xs ys
 grown_wider low high more xs ys le g = (g.0, (g.1.0, among_wider low high low more (omega arith) le g.0 g.1.1))
 
-has_append : (xs ys : List ℕ) (n : ℕ) → has xs n ≡ true → has (xs ++ ys) n ≡ true
-has_append [] ys n h = absurd cc
-has_append (x ∷ xs) ys n h = elim (or_cases (eqb n x) (has xs n) h) [
-  | inl e ↦ or_left (eqb n x) (has (xs ++ ys) n) e
-  | inr t ↦ or_right (eqb n x) (has (xs ++ ys) n) (has_append xs ys n t)
-]
-
-append_has : (xs ys : List ℕ) (n : ℕ) → has (xs ++ ys) n ≡ true → (has xs n ≡ true) ⊎ (has ys n ≡ true)
-append_has [] ys n h = inr h
-append_has (x ∷ xs) ys n h = elim (or_cases (eqb n x) (has (xs ++ ys) n) h) [
-  | inl e ↦ inl (or_left (eqb n x) (has xs n) e)
-  | inr t ↦ elim (append_has xs ys n t) [ inl old ↦ inl (or_right (eqb n x) (has xs n) old) | inr new ↦ inr new ]
-]
-
 -- it has what it had
 pub grown_kept : (low high : ℕ) (xs ys : List ℕ) (n : ℕ) → IsGrown low high xs ys → has xs n ≡ true → has ys n ≡ true
-grown_kept low high xs ys n g h = ap (λ l. has l n) g.1.0 ∙ has_append xs g.0 n h
+grown_kept low high xs ys n g h = ap (λ l. has l n) g.1.0 ∙ has-append_left xs g.0 n h
 
 -- and else those nodes alone
 pub grown_only : (low high : ℕ) (xs ys : List ℕ) (n : ℕ) → IsGrown low high xs ys → has ys n ≡ true → (has xs n ≡ true) ⊎ ((low ≤ n) × (n < high))
-grown_only low high xs ys n g h = elim (append_has xs g.0 n (ap (λ l. has l n) (sym g.1.0) ∙ h)) [
+grown_only low high xs ys n g h = elim (has-append_cases xs g.0 n (ap (λ l. has l n) (sym g.1.0) ∙ h)) [
   | inl old ↦ inl old
   | inr new ↦ inr (All-has (λ node. (low ≤ node) × (node < high)) g.0 n g.1.1 new)
 ]

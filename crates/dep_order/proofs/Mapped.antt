@@ -4,25 +4,7 @@ use Rattle.std.specs.List.{list_any, list_all}
 use Rattle.std.proofs.lemmas.Bool.{cases_Bool, and_from, and_left, and_right, or_from, or_left, or_right, eq-eqb}
 use Rattle.index_lists.specs.NodeLists.{has, without}
 use Rattle.index_lists.proofs.Linking.{split_eq}
-
--- what a search finds is in the list, and is sought
-pub find_some : (wanted : ℕ → Bool) (xs : List ℕ) (m : ℕ) → find wanted xs ≡ Some m → (has xs m ≡ true) × (wanted m ≡ true)
-find_some wanted [] m h = absurd cc
-find_some wanted (x ∷ xs) m h = elim (cases_Bool (wanted x)) [
-  | inl t ↦ let here : Some x ≡ Some m = rw t at h in let same : x ≡ m = cc in (or_left (eqb m x) (has xs m) (eq-eqb m x (sym same)), ap wanted (sym same) ∙ t)
-  | inr f ↦ let rest : find wanted xs ≡ Some m = rw f at h in let found = find_some wanted xs m rest in (or_right (eqb m x) (has xs m) found.0, found.1)
-]
-
--- and where it finds nothing, nothing in the list is
-pub find_none : (wanted : ℕ → Bool) (xs : List ℕ) → find wanted xs ≡ None → (m : ℕ) → has xs m ≡ true → wanted m ≡ false
-find_none wanted [] h m there = absurd cc
-find_none wanted (x ∷ xs) h m there = elim (cases_Bool (wanted x)) [
-  | inl t ↦ absurd (let here : Some x ≡ None = rw t at h in cc)
-  | inr f ↦ let rest : find wanted xs ≡ None = rw f at h in elim (split_eq m x) [
-    | inl e ↦ ap wanted e.0 ∙ f
-    | inr ne ↦ let behind : has xs m ≡ true = rw ne.1 at there in find_none wanted xs rest m behind
-  ]
-]
+use Rattle.index_lists.proofs.Members.{find_some}
 
 module _ {A : Type 0} (at : ℕ → A) where
   -- ---- all and any

@@ -10,12 +10,12 @@ use Rattle.dep_order.specs.declared.row.Row.{Row}
 use Rattle.dep_order.specs.Rows.{print_of}
 use Rattle.dep_order.specs.WaitLists.{AreFit, row_at, no_row, place_of, number_at, number_list, offload_list, page_list, IsGrown, IsInOrder, Stands, StandsFor}
 use Rattle.dep_order.specs.Fields.{print_at, calls_of, IsRising, IsSound}
-use Rattle.dep_order.proofs.Listed.{has_at, list_at_same, list_at_other, lists_same, in_push, push_old, push_new, in_without, without_shorter, first_gone}
 use Rattle.dep_order.proofs.Mapped.{map_same, map_push, filter_one}
 use Rattle.dep_order.proofs.Joining.{AreAmong, grown_kept, grown_only}
 use Rattle.dep_order.proofs.InOrder.{order_grown}
 use Rattle.dep_order.proofs.Rising.{Below, below_there, rising_push, rising_filter}
 use Rattle.dep_order.proofs.Going.{alone}
+use Rattle.index_lists.proofs.Members.{has_at, list_at_same, list_at_other, lists_same, has-push_cases, has-push_old, has-push_new, has-without_cases, length-without, first_gone}
 
 -- a place stands where it has to, also after others have joined or left
 stands_for : (v new : NodeLists) (place : ℕ) (row : Row) → ((list node : ℕ) → IsIn v list node → place_of node ≡ place → IsIn new list node) → StandsFor v place row → StandsFor new place row
@@ -115,13 +115,13 @@ module _ {rows : List Row} {places waits : NodeLists} (s : IsSound rows places w
           node_count = nodes ∙ s.node_count;
           list_count = count ∙ s.list_count;
           waits_valid = vw;
-          stands = λ p h. elim (in_push (list_at places 0) n p (ap (λ xs. has xs p) (sym zero2) ∙ h)) [
+          stands = λ p h. elim (has-push_cases (list_at places 0) n p (ap (λ xs. has xs p) (sym zero2) ∙ h)) [
             | inl old ↦ subst (StandsFor w2 p) (sym (old_other p old)) (stands_for waits w2 p (row_at rows p) (λ l m there is. grown_kept (n * 20) (n * 20 + 20) (list_at waits l) (list_at w2 l) m (grown l) there) (s.stands p old))
             | inr e ↦ subst (λ q. StandsFor w2 q (row_at rows' q)) (sym e) (subst (StandsFor w2 n) (sym row_here) joined)
           ];
           used = λ l m h. elim (grown_only (n * 20) (n * 20 + 20) (list_at waits l) (list_at w2 l) m (grown l) h) [
-            | inl old ↦ ap (λ xs. has xs (place_of m)) zero2 ∙ push_old (list_at places 0) n (place_of m) (s.used l m old)
-            | inr its ↦ let e : place_of m ≡ n = omega (arith, its.0, its.1) in ap (λ xs. has xs (place_of m)) zero2 ∙ ap (has (list_at places 0 ++ n ∷ [])) e ∙ push_new (list_at places 0) n
+            | inl old ↦ ap (λ xs. has xs (place_of m)) zero2 ∙ has-push_old (list_at places 0) n (place_of m) (s.used l m old)
+            | inr its ↦ let e : place_of m ≡ n = omega (arith, its.0, its.1) in ap (λ xs. has xs (place_of m)) zero2 ∙ ap (has (list_at places 0 ++ n ∷ [])) e ∙ has-push_new (list_at places 0) n
           ];
           in_order = λ l.
               let now = grown l in
@@ -144,7 +144,7 @@ module _ {rows : List Row} {places waits : NodeLists} (s : IsSound rows places w
 
     pub out_free : IsFree p1 n
     out_free = λ l. false_from_ne_true _ (λ h. elim (cases_eq l 0) [
-      | inl e ↦ (in_without n (list_at places 0) n (ap (λ xs. has xs n) (sym out_zero1) ∙ ap (λ m. has (list_at p1 m) n) (sym e) ∙ h)).1 refl
+      | inl e ↦ (has-without_cases n (list_at places 0) n (ap (λ xs. has xs n) (sym out_zero1) ∙ ap (λ m. has (list_at p1 m) n) (sym e) ∙ h)).1 refl
       | inr ne ↦ ne (s.places_valid.apart l 0 n (ap (λ xs. has xs n) (sym (out_other1 l ne)) ∙ h) held)
     ])
 
@@ -170,7 +170,7 @@ module _ {rows : List Row} {places waits : NodeLists} (s : IsSound rows places w
           → ((number : ℕ → ℕ) (list : ℕ) → IsInOrder number (list_at waits list) → IsInOrder number (list_at w2 list))
           → IsSound rows p2 w2
       out_sound v2 nodes count vw kept only order =
-          let shorter = without_shorter n (list_at places 0) (s.places_valid.distinct 0) held in
+          let shorter = length-without n (list_at places 0) (s.places_valid.distinct 0) held in
           record {
             row_count = s.row_count;
             fit = s.fit;
@@ -183,7 +183,7 @@ module _ {rows : List Row} {places waits : NodeLists} (s : IsSound rows places w
             list_count = count ∙ s.list_count;
             waits_valid = vw;
             stands = λ p h.
-                let old = in_without n (list_at places 0) p (ap (λ xs. has xs p) (sym out_zero2) ∙ h) in
+                let old = has-without_cases n (list_at places 0) p (ap (λ xs. has xs p) (sym out_zero2) ∙ h) in
                 stands_for waits w2 p (row_at rows p) (λ l m there is. kept l m there (λ its. old.1 (sym is ∙ its))) (s.stands p old.0);
             used = λ l m h.
                 let old = only l m h in

@@ -4,3 +4,6 @@ pub mod Tied
 pub mod Seen
 pub mod Changes
 pub mod Looks
+pub mod Members
+pub mod Walks
+pub mod Free

@@ -1,13 +1,13 @@
 -- The lists of a pool whose pages are all free.
-use Rattle.std.proofs.Common.{◌≡◌, ℕ, zero, suc, ◌+◌, ◌-◌, ◌<◌, ◌≤◌, min, true, false, eqb, inl, inr, List, [], ◌∷◌, ◌++◌, length, refl, sym, ap, ◌∙◌, arith, append-nil}
+use Rattle.std.proofs.Common.{◌≡◌, ℕ, zero, suc, ◌+◌, ◌-◌, ◌<◌, ◌≤◌, min, false, eqb, inl, inr, List, [], ◌∷◌, ◌++◌, length, refl, sym, ap, ◌∙◌, arith, append-nil}
 use Rattle.std.specs.List.{AllByRecursion, IsDistinct, range_with_len}
 use Rattle.std.proofs.lemmas.Bool.{cases_Bool, ne_eqb}
 use Rattle.std.proofs.lemmas.List.{map-id}
 use Rattle.std.proofs.lemmas.List.FromFn.{length-range_with_len, map-range_with_len_more}
 use Rattle.circular_buffer.specs.Buffer.{Buffer, buffer, keep_last}
 use Rattle.index_lists.specs.NodeLists.{NodeLists, has, list_at, IsFree, with_list}
-use Rattle.index_lists.proofs.Linking.{split_eq}
 use Rattle.page_pool.specs.Kept.{IsSound}
+use Rattle.index_lists.proofs.Members.{has-range}
 
 -- a range with one more number at its end
 pub range_push : (a n : ℕ) → range_with_len a (n + 1) ≡ range_with_len a n ++ (a + n) ∷ []
@@ -20,14 +20,6 @@ range_append a (suc m) n =
     let e : a + suc m ≡ a + 1 + m = omega arith in
     let f : suc m + n ≡ suc (m + n) = omega arith in
     rw (e, f) (ap (λ (xs : List ℕ). a ∷ xs) (range_append (a + 1) m n))
-
--- the numbers of a range
-has-range : (a n p : ℕ) → has (range_with_len a n) p ≡ true → (a ≤ p) × (p < a + n)
-has-range a zero p h = absurd cc
-has-range a (suc n) p h = elim (split_eq p a) [
-  | inl t ↦ (omega (arith, t.0), omega (arith, t.0))
-  | inr f ↦ let rest = has-range (a + 1) n p (rw f.1 at h) in (omega (arith, rest.0), omega (arith, rest.1))
-]
 
 -- and no others
 pub not_in_range : (a n p : ℕ) → a + n ≤ p → has (range_with_len a n) p ≡ false

@@ -9,7 +9,7 @@ use Rattle.index_lists.specs.NodeLists.{NodeLists, has, list_at, IsFree, with_li
 use Rattle.index_lists.proofs.Edits.{has-list_any}
 use Rattle.page_pool.specs.PoolPages.{PoolPages, free_list, free_pages, IsTaken, IsPartition}
 use Rattle.page_pool.specs.Kept.{IsSound, pool_pages}
-use Rattle.page_pool.proofs.Members.{has-append, has-append_false, has-append_right, apart_has, head_apart, IsDistinct-push, IsDistinct-tail}
+use Rattle.index_lists.proofs.Members.{has-append, has-append_false, has-append_right, apart_has, head_apart, IsDistinct-push, IsDistinct-tail}
 
 -- no more pages are free than there are
 pub few_free : (v : PoolPages) → IsPartition v → free_pages v ≤ v.pages

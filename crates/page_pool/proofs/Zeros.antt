@@ -7,7 +7,7 @@ use Rattle.index_lists.specs.NodeLists.{NodeLists, has, list_at, with_list}
 use Rattle.index_lists.proofs.Linking.{split_eq}
 use Rattle.page_arena.specs.Arena.{page_at, zero_page}
 use Rattle.page_pool.specs.PoolPages.{PoolPages, free_list, IsTaken, IsPartition, AreZero}
-use Rattle.page_pool.proofs.Members.{has-append_false, has-append_cases, has-append_left, has-append_right, has-drop}
+use Rattle.index_lists.proofs.Members.{has-append_false, has-append_cases, has-append_left, has-append_right, has-drop}
 
 -- what the arena calls a page of zeros is a fresh page
 pub zero_page_is : zero_page ≡ fresh_bytes

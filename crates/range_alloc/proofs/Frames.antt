@@ -8,7 +8,7 @@ use Rattle.cl_types.specs.Places.{Place}
 use Rattle.cl_types.proofs.PlaceLemmas.{same_place, split_place}
 use Rattle.hash_buckets.specs.PageMap.{PageMap, entry_of, without_entry}
 use Rattle.page_pool.specs.PoolPages.{PoolPages, IsTaken, free_list}
-use Rattle.page_pool.proofs.Members.{has-append}
+use Rattle.index_lists.proofs.Members.{has-append}
 use Rattle.flat_model.specs.State.{places_of}
 use Rattle.range_alloc.specs.Ranges.{AreTaken, frame_at, frames_of}
 use Rattle.range_alloc.proofs.Entries.{entry-without, frame_in}

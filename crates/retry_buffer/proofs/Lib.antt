@@ -3,7 +3,6 @@ pub mod Records
 pub mod Turns
 pub mod Places
 pub mod Links
-pub mod Walks
 pub mod Chained
 pub mod Noting
 pub mod Looks

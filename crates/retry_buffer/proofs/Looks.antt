@@ -13,7 +13,7 @@ use Rattle.retry_buffer.specs.Fields.{in_turn, AreChained, IsSound}
 use Rattle.retry_buffer.proofs.Names.{same_name_is}
 use Rattle.retry_buffer.proofs.Records.{one_of_place, place_of_one, one_found, none_found}
 use Rattle.retry_buffer.proofs.Turns.{one_in_turn, one_at_place}
-use Rattle.retry_buffer.proofs.Walks.{rest_from, IsWithin, first_within, after_within, rest_from-first, rest_from-after}
+use Rattle.index_lists.proofs.Walks.{rest_from, IsWithin, first_within, after_within, rest_from-first, rest_from-after}
 
 -- the walk along these places stands here, and what it has passed has other names
 pub record IsPassed (slots : List Noted) (name : Name) (places : List ℕ) (at : Option ℕ) : Type 0 where

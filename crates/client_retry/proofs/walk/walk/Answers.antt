@@ -2,8 +2,9 @@
 use Rattle.std.proofs.Common.{sym, ap, ◌∙◌, arith}
 use Rattle.index_lists.specs.NodeLists.{list_at}
 use Rattle.client_retry.specs.Walks.{is_wanted_there}
-use Rattle.client_retry.proofs.WalkLemmas.{at, has_at, few_places, stops_at_end, stops_at_none, stops_here, goes_on}
+use Rattle.client_retry.proofs.WalkLemmas.{at, few_places, stops_at_end, stops_at_none, stops_here, goes_on}
 use Rattle.client_retry.proofs.walk.walk.Goals as goal
+use Rattle.index_lists.proofs.Members.{has_at}
 
 pub returns-in_default-clause-here : goal.returns-in_default-clause-here
 returns-in_default-clause-here c = (stops_at_none _ _ c.loop-k.invariant c.in_default.is).here_is

@@ -3,8 +3,9 @@ use Rattle.std.proofs.lemmas.Bool.{cases_eq}
 use Rattle.index_lists.specs.NodeLists.{list_at, IsIn}
 use Rattle.dep_order.specs.WaitLists.{place_of, wanted_at}
 use Rattle.dep_order.specs.declared.walk.Wanted.TheVariants.{AwaitedBy}
-use Rattle.dep_order.proofs.Mapped.{some_sought, none_sought, find_none}
+use Rattle.dep_order.proofs.Mapped.{some_sought, none_sought}
 use Rattle.dep_order.proofs.walk.waits_in.Goals as goal
+use Rattle.index_lists.proofs.Members.{find_none}
 
 pub returns-then-is_some-clause-some : goal.returns-then-is_some-clause-some
 returns-then-is_some-clause-some c = λ t.

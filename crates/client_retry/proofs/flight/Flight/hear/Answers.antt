@@ -4,10 +4,10 @@ use Rattle.index_lists.specs.NodeLists.{list_at}
 use Rattle.client_retry.specs.declared.flown.Flown.{Flown}
 use Rattle.client_retry.specs.Fields.{chain_of, IsSound, flown_at, chain_at, flying}
 use Rattle.client_retry.specs.Flights.{without}
-use Rattle.client_retry.proofs.Places.{without_shorter}
 use Rattle.client_retry.proofs.Flying.{without_none}
 use Rattle.client_retry.proofs.Sound.{chain_walked, chain_walked_to, part_there, out_free, out_seen, out_sound}
 use Rattle.client_retry.proofs.flight.Flight.hear.Goals as goal
+use Rattle.index_lists.proofs.Members.{length-without}
 
 pub returns-in_default-clause-part : goal.returns-in_default-clause-part
 returns-in_default-clause-part c =
@@ -37,7 +37,7 @@ overflow_sub-self c =
     omega (
       arith,
       c.self.invariant.counted,
-      without_shorter c.in-Some.place (list_at c.self.inside.places 0) (c.self.invariant.places_valid.distinct 0) (chain_walked_to c.self.invariant c.args.orig (chain_of c.args.orig) c.in-Some.place refl (sym c.in-Some.is ∙ c.place_of.ensures)).0,
+      length-without c.in-Some.place (list_at c.self.inside.places 0) (c.self.invariant.places_valid.distinct 0) (chain_walked_to c.self.invariant c.args.orig (chain_of c.args.orig) c.in-Some.place refl (sym c.in-Some.is ∙ c.place_of.ensures)).0,
     )
 
 pub invariant_of-self : goal.invariant_of-self

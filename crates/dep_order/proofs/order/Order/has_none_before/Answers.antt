@@ -4,11 +4,11 @@ use Rattle.std.specs.Vec.{vec_len}
 use Rattle.index_lists.specs.NodeLists.{list_at}
 use Rattle.dep_order.specs.declared.row.Row.{Row}
 use Rattle.dep_order.specs.Fields.{print_at}
-use Rattle.dep_order.proofs.Listed.{has_at}
 use Rattle.dep_order.proofs.Rising.{first_tells}
 use Rattle.dep_order.proofs.Rows.{row_read}
 use Rattle.dep_order.proofs.Sound.{below}
 use Rattle.dep_order.proofs.order.Order.has_none_before.Goals as goal
+use Rattle.index_lists.proofs.Members.{has_at}
 
 pub index-requires : goal.index-requires
 index-requires c =

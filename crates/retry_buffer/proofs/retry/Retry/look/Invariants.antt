@@ -1,6 +1,6 @@
 use Rattle.std.proofs.Common.{length}
 use Rattle.index_lists.specs.NodeLists.{list_at}
-use Rattle.retry_buffer.proofs.Walks.{rest_from}
+use Rattle.index_lists.proofs.Walks.{rest_from}
 use Rattle.retry_buffer.proofs.Looks.{IsPassed}
 use Rattle.retry_buffer.proofs.retry.Retry.look.Given as goal
 
