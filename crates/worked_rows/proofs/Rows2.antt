@@ -1,4 +1,4 @@
--- Worked schedules, from bytes to bytes. Written by scripts/rows_as_lemmas from examples/worked.
+-- Worked schedules, from bytes to bytes. Written by scripts/rows_as_lemmas from tests/worked.
 use Rattle.std.proofs.Common.{◌≡◌, [], ◌∷◌, refl}
 use Rattle.std.specs.Prelude.{codes}
 use Rattle.std.specs.Fmt.{digits}
