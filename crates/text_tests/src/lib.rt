@@ -1,0 +1,9 @@
+//! Tests of frames and texts: vectors, lines, entries and bad lines from outside.
+#![tactic(auto)]
+
+#[cfg(test)]
+mod frames;
+#[cfg(test)]
+mod schedules;
+#[cfg(test)]
+mod transcripts;
