@@ -1,6 +1,7 @@
 -- The laws of the account, for every schedule that was read.
 use Rattle.std.proofs.Common.{◌≡◌, ◌∙◌, ℕ, List, Ok, subst, sym}
 use Rattle.cl_types.specs.declared.schedule.Schedule.{Schedule}
+use Rattle.texts.specs.Text.{Text}
 use Rattle.trace.specs.Events.{account}
 use Rattle.texts.specs.Grammar.{schedule_of}
 use Rattle.trace.specs.Schedules.{IsGood, AreTyped, IsRisingFrom}
@@ -12,13 +13,14 @@ use Rattle.trace_laws.proofs.Spelled.{rises_from_zero}
 use Rattle.history_laws.proofs.StandsKept.{law_of_stands}
 use Rattle.trace_laws.proofs.TimesKept.{law_of_times}
 use Rattle.clio_cli.specs.Headline.{EndsInHeadline, Headline, LeavesNothing}
-use Rattle.clio_cli.specs.Run.{Outside}
+use Rattle.clio_cli.specs.Run.{EndsWith, Outside}
+use Rattle.clio_cli.specs.Runs.{Runs}
 use Rattle.clio_cli.specs.Status.{number_of}
-use Rattle.clio_cli.specs.Wanted.{Keeps}
+use Rattle.clio_cli.specs.Wanted.{Keeps, Serves}
 use Rattle.clio_cli.specs.declared.left.Left.{Left}
 use Rattle.clio_cli.specs.declared.status.Status.{Status}
 use Rattle.clio_cli.specs.declared.status.Status.TheVariants as status
-use Rattle.clio_cli.proofs.RunLemmas.{one_status}
+use Rattle.clio_cli.proofs.RunLemmas.{bad_input_exactly, bad_node_exactly, bad_words_exactly, completely, faults_end, one_status, too_long_exactly}
 
 -- the account of a schedule that was read keeps the headline
 pub headline_law : (bytes : List ℕ) (s : Schedule) → schedule_of bytes ≡ Ok s → Headline s.config (account s.config s.events)
@@ -51,3 +53,28 @@ leaves_nothing before after kept number status.WriteFault is keeps other = keeps
 leaves_nothing before after kept number status.NoMemory is keeps other = keeps
 leaves_nothing before after kept number status.TooLong is keeps other = keeps
 leaves_nothing before after kept number status.BadNode is keeps other = keeps
+
+-- what is promised of a command line that was served
+pub runs : (words : List Text) (before after : Outside) (kept : Left) (st : Status) (number : ℕ) → number ≡ number_of st → Serves words before after kept st → Runs words before after kept number
+runs words before after kept st number is serves = record {
+  ends = end;
+  complete = completely words after number reads writes written before.left end;
+  headline = ends_in_headline before after kept number st is serves.keeps;
+  left = leaves_nothing before after kept number st is serves.keeps;
+  bad_words = bad_words_exactly words after number reads writes written before.left end;
+  bad_input = bad_input_exactly words after number reads writes written before.left end;
+  too_long = too_long_exactly words after number reads writes written before.left end;
+  bad_node = bad_node_exactly words after number reads writes written before.left end;
+  faults = faults_end words before after number end;
+} where
+  end : EndsWith words before after number
+  end = (st, is, serves.ends)
+
+  reads : Faults
+  reads = before.read_faults
+
+  writes : Faults
+  writes = before.write_faults
+
+  written : Option (List ℕ)
+  written = before.written

@@ -4,6 +4,7 @@ pub mod Verdict
 pub mod Run
 pub mod Suited
 pub mod Headline
+pub mod Runs
 pub mod Gathered
 pub mod Replay
 pub mod Wanted

@@ -9,7 +9,7 @@ use Rattle.flat_model.specs.Opening.{open_fault}
 use Rattle.cl_types.specs.declared.open_fault.OpenFault.{OpenFault}
 use Rattle.world.specs.Follows.{opened}
 use Rattle.clio_cli.specs.Headline.{Replays}
-use Rattle.clio_cli.specs.Run.{IsInput, Outside, Wants, WantsBy}
+use Rattle.clio_cli.specs.Run.{Ends, IsInput, Outside, Wants, WantsBy}
 use Rattle.clio_cli.specs.Verdict.{Verdict, IsRefusal, IsReplayable, verdict, verdict_at_opening}
 use Rattle.clio_cli.specs.Words.{is_built_command}
 use Rattle.clio_cli.specs.declared.judge.Output.{Output}
@@ -62,3 +62,8 @@ CountsHalt before now other = NoneFailed before now
 abbrev pub Keeps : Outside → Outside → Left → Status → Type 0
 Keeps before after kept status.Ok = Replays before after kept
 Keeps before after kept other = kept ≡ left.Nothing
+
+-- how a command line was served: with which status it ends, and what is left
+pub record Serves (words : List Text) (before after : Outside) (kept : Left) (st : Status) : Type 0 where
+  pub ends : Ends words before after st
+  pub keeps : Keeps before after kept st

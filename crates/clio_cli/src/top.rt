@@ -1,12 +1,11 @@
 //! The top call.
 
-ghost use Rattle.std.specs.Prelude.{◌≡◌, ◌+◌, IfOk, IsErrOf, IsTrue, false};
+ghost use Rattle.std.specs.Prelude.{◌≡◌, ◌+◌, IfOk, IsErrOf, IsTrue};
 ghost use Rattle.cl_outside.specs.Loops.{TookUpTo};
 ghost use Rattle.texts.specs.Commands.{command_in};
-ghost use Rattle.clio_cli.specs.Headline.{EndsInHeadline, LeavesNothing};
-ghost use Rattle.clio_cli.specs.Run.{Complete, Ends, EndsWith, Exactly, ExactlyOf, FaultsEndTheRun, Takes, outside};
-ghost use Rattle.clio_cli.specs.Verdict.{HasBadNode, IsRefused, IsTooLong};
-ghost use Rattle.clio_cli.specs.Wanted.{Asks, AsksOf, CountsHalt, Keeps};
+ghost use Rattle.clio_cli.specs.Run.{Takes, outside};
+ghost use Rattle.clio_cli.specs.Runs.{Runs};
+ghost use Rattle.clio_cli.specs.Wanted.{Asks, AsksOf, CountsHalt, Serves};
 ghost use Rattle.clio_cli.specs.Words.{is_built_command};
 
 use crate::judge::{Wanted, judge, output_of, too_many};
@@ -80,11 +79,7 @@ fn serve<S: Source, K: Sink>(
     left: &mut Left,
 ) -> Status
     requires nothing { left.old ≡ Left.Nothing }
-    ensures ends { Ends words.now
-        (outside (S.left source.old) (S.faults source.old) (K.written sink.old) (K.faults sink.old))
-        (outside (S.left source.new) (S.faults source.new) (K.written sink.new) (K.faults sink.new))
-        result }
-    ensures keeps { Keeps
+    ensures { Serves words.now
         (outside (S.left source.old) (S.faults source.old) (K.written sink.old) (K.faults sink.old))
         (outside (S.left source.new) (S.faults source.new) (K.written sink.new) (K.faults sink.new))
         left.new result }
@@ -109,39 +104,10 @@ pub fn run<S: Source, K: Sink>(
     sink: &mut K,
     left: &mut Left,
 ) -> u8
-    ensures ends { EndsWith words.now
-        (outside (S.left source.old) (S.faults source.old) (K.written sink.old) (K.faults sink.old))
-        (outside (S.left source.new) (S.faults source.new) (K.written sink.new) (K.faults sink.new))
-        result }
-    ensures complete { Complete words.now
-        (outside (S.left source.old) (S.faults source.old) (K.written sink.old) (K.faults sink.old))
-        (outside (S.left source.new) (S.faults source.new) (K.written sink.new) (K.faults sink.new))
-        result }
-    ensures headline { EndsInHeadline
+    ensures { Runs words.now
         (outside (S.left source.old) (S.faults source.old) (K.written sink.old) (K.faults sink.old))
         (outside (S.left source.new) (S.faults source.new) (K.written sink.new) (K.faults sink.new))
         left.new result }
-    ensures left { LeavesNothing left.new result }
-    ensures bad_words { Exactly
-        (outside (S.left source.old) (S.faults source.old) (K.written sink.old) (K.faults sink.old))
-        (outside (S.left source.new) (S.faults source.new) (K.written sink.new) (K.faults sink.new))
-        result Status.BadWords (is_built_command (command_in words.now) ≡ false) }
-    ensures bad_input { ExactlyOf words.now
-        (outside (S.left source.old) (S.faults source.old) (K.written sink.old) (K.faults sink.old))
-        (outside (S.left source.new) (S.faults source.new) (K.written sink.new) (K.faults sink.new))
-        result Status.BadInput IsRefused }
-    ensures too_long { ExactlyOf words.now
-        (outside (S.left source.old) (S.faults source.old) (K.written sink.old) (K.faults sink.old))
-        (outside (S.left source.new) (S.faults source.new) (K.written sink.new) (K.faults sink.new))
-        result Status.TooLong IsTooLong }
-    ensures bad_node { ExactlyOf words.now
-        (outside (S.left source.old) (S.faults source.old) (K.written sink.old) (K.faults sink.old))
-        (outside (S.left source.new) (S.faults source.new) (K.written sink.new) (K.faults sink.new))
-        result Status.BadNode HasBadNode }
-    ensures faults { FaultsEndTheRun
-        (outside (S.left source.old) (S.faults source.old) (K.written sink.old) (K.faults sink.old))
-        (outside (S.left source.new) (S.faults source.new) (K.written sink.new) (K.faults sink.new))
-        result }
 {
     *left = Left::Nothing;
     serve(alloc, words, source, sink, left).number()

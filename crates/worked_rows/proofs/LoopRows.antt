@@ -13,6 +13,7 @@ use Rattle.wire_loop.specs.Printing.{printed_text}
 use Rattle.texts.specs.Words.{bytes_of_pairs}
 use Rattle.texts.specs.Grammar.{Fault, script_of}
 use Rattle.wire_loop.specs.Outside.{Clock, Received, Datagram, NothingCame, ReceivingFailed, Sendings}
+use Rattle.node_model.specs.Handling.{latest}
 use Rattle.node_model.specs.Nodes.{opening_node}
 use Rattle.client_model.specs.Client.{new_client}
 use Rattle.wire_loop.specs.Serving.{Serving, serving_of, served_over}
@@ -92,66 +93,66 @@ shown s = (s.sent, s.served, s.idles, s.failed)
 
 -- each datagram is answered to where it came from, once each time that it comes, and junk is counted
 datagrams_are_served :
-    shown (served_over 3 1000 new_node (asks 9 ∷ babbles 9 ∷ asks 7 ∷ [])) ≡ ((9, has_a_page) ∷ (7, has_a_page) ∷ [], 3, 0, false)
+    shown (served_over latest 3 1000 new_node (asks 9 ∷ babbles 9 ∷ asks 7 ∷ [])) ≡ ((9, has_a_page) ∷ (7, has_a_page) ∷ [], 3, 0, false)
 unfolding home_of least
 datagrams_are_served = refl
 
 -- after so many datagrams nothing more is received
 serving_ends_by_frames :
-    shown (served_over 1 1000 new_node (asks 9 ∷ asks 9 ∷ ReceivingFailed ∷ [])) ≡ ((9, has_a_page) ∷ [], 1, 0, false)
+    shown (served_over latest 1 1000 new_node (asks 9 ∷ asks 9 ∷ ReceivingFailed ∷ [])) ≡ ((9, has_a_page) ∷ [], 1, 0, false)
 unfolding home_of least
 serving_ends_by_frames = refl
 
 -- nor after so many idle turns in a row
-serving_ends_by_idles : shown (served_over 3 2 new_node (NothingCame ∷ NothingCame ∷ asks 9 ∷ [])) ≡ ([], 0, 2, false)
+serving_ends_by_idles : shown (served_over latest 3 2 new_node (NothingCame ∷ NothingCame ∷ asks 9 ∷ [])) ≡ ([], 0, 2, false)
 serving_ends_by_idles = refl
 
 -- any datagram, junk too, begins a new row of idle turns; where the wire has no more, each turn is idle
 junk_ends_a_row_of_idles :
-    shown (served_over 3 2 new_node (NothingCame ∷ babbles 9 ∷ NothingCame ∷ asks 9 ∷ [])) ≡ ((9, has_a_page) ∷ [], 2, 2, false)
+    shown (served_over latest 3 2 new_node (NothingCame ∷ babbles 9 ∷ NothingCame ∷ asks 9 ∷ [])) ≡ ((9, has_a_page) ∷ [], 2, 2, false)
 unfolding home_of least
 junk_ends_a_row_of_idles = refl
 
 -- where the one kept reply is young the node is busy: nothing is sent, and the datagram is served
-busy_sends_nothing : shown (served_over 2 1 (keeps_one (0 ∷ []) 399) (asks 9 ∷ puts 9 ∷ [])) ≡ ((9, has_a_page) ∷ [], 2, 0, false)
+busy_sends_nothing : shown (served_over latest 2 1 (keeps_one (0 ∷ []) 399) (asks 9 ∷ puts 9 ∷ [])) ≡ ((9, has_a_page) ∷ [], 2, 0, false)
 unfolding home_of least
 busy_sends_nothing = refl
 
 -- a tick later it is not
 old_replies_make_room :
-    shown (served_over 2 1 (keeps_one (0 ∷ []) 400) (asks 9 ∷ puts 9 ∷ [])) ≡ ((9, has_a_page) ∷ (9, has_put) ∷ [], 2, 0, false)
+    shown (served_over latest 2 1 (keeps_one (0 ∷ []) 400) (asks 9 ∷ puts 9 ∷ [])) ≡ ((9, has_a_page) ∷ (9, has_put) ∷ [], 2, 0, false)
 unfolding home_of least fresh_bytes
 old_replies_make_room = refl
 
 -- an idle turn asks no clock: the second datagram has the second answer, 399, and not the third
 idle_turns_have_no_moment :
-    shown (served_over 2 2 (keeps_one (0 ∷ 399 ∷ []) 400) (asks 9 ∷ NothingCame ∷ puts 9 ∷ [])) ≡ ((9, has_a_page) ∷ [], 2, 0, false)
+    shown (served_over latest 2 2 (keeps_one (0 ∷ 399 ∷ []) 400) (asks 9 ∷ NothingCame ∷ puts 9 ∷ [])) ≡ ((9, has_a_page) ∷ [], 2, 0, false)
 unfolding home_of least
 idle_turns_have_no_moment = refl
 
 -- a clock that falls back leaves the moment, which junk has too
 moments_never_fall :
-    shown (served_over 3 2 (keeps_one (0 ∷ 400 ∷ []) 7) (asks 9 ∷ babbles 9 ∷ puts 9 ∷ []))
+    shown (served_over latest 3 2 (keeps_one (0 ∷ 400 ∷ []) 7) (asks 9 ∷ babbles 9 ∷ puts 9 ∷ []))
     ≡ ((9, has_a_page) ∷ (9, has_put) ∷ [], 3, 0, false)
 unfolding home_of least fresh_bytes
 moments_never_fall = refl
 
 -- before the first datagram the moment is the node's last one
 serving_begins_at_the_last_moment :
-    map (λ r. r.moment) (served_over 1 1 (lent 4 500 (ticks [] 0) []) (asks 9 ∷ [])).node.records ≡ 500 ∷ []
+    map (λ r. r.moment) (served_over latest 1 1 (lent 4 500 (ticks [] 0) []) (asks 9 ∷ [])).node.records ≡ 500 ∷ []
 unfolding home_of least
 serving_begins_at_the_last_moment = refl
 
 -- a sending that fails ends the run, and its datagram isn't counted
 serving_ends_by_a_sending :
-    shown (served_over 3 1000 (lent 4 0 (ticks [] 0) (true ∷ false ∷ [])) (asks 9 ∷ asks 9 ∷ asks 9 ∷ []))
+    shown (served_over latest 3 1000 (lent 4 0 (ticks [] 0) (true ∷ false ∷ [])) (asks 9 ∷ asks 9 ∷ asks 9 ∷ []))
     ≡ ((9, has_a_page) ∷ [], 1, 0, true)
 unfolding home_of least
 serving_ends_by_a_sending = refl
 
 -- so does a receiving that fails
 serving_ends_by_a_receiving :
-    shown (served_over 3 1000 new_node (asks 9 ∷ ReceivingFailed ∷ asks 9 ∷ [])) ≡ ((9, has_a_page) ∷ [], 1, 0, true)
+    shown (served_over latest 3 1000 new_node (asks 9 ∷ ReceivingFailed ∷ asks 9 ∷ [])) ≡ ((9, has_a_page) ∷ [], 1, 0, true)
 unfolding home_of least
 serving_ends_by_a_receiving = refl
 

@@ -9,18 +9,16 @@ play-requires-clause-served g c =
     let asked = subst (Asks c.args.words.now (g.S.Source.left c.args.source.now) (g.S.Source.left c.wanted.new.source)) c.in-Ok-Opened.field-0-is c.in-Ok-Opened.ensures.asked in
     served_of asked.1.0 c.in-Ok-Opened.schedule asked.1.2
 
-pub returns-in-Ok-Opened-clause-ends : goal.returns-in-Ok-Opened-clause-ends
-returns-in-Ok-Opened-clause-ends g c =
+pub returns-in-Ok-Opened : goal.returns-in-Ok-Opened
+returns-in-Ok-Opened g c =
     let asked = subst (Asks c.args.words.now (g.S.Source.left c.args.source.now) (g.S.Source.left c.wanted.new.source)) c.in-Ok-Opened.field-0-is c.in-Ok-Opened.ensures.asked in
-    plays_end c.args.words.now
-    (outside (g.S.Source.left c.args.source.now) (g.S.Source.faults c.args.source.now) (g.K.Sink.written c.args.sink.now) (g.K.Sink.faults c.args.sink.now))
-    (outside (g.S.Source.left c.wanted.new.source) (g.S.Source.faults c.wanted.new.source) (g.K.Sink.written c.play.new.sink) (g.K.Sink.faults c.play.new.sink))
-    c.in-Ok-Opened.schedule c.in-Ok-Opened.world c.play.new.left asked c.in-Ok-Opened.ensures.counted c.play.result c.play.ensures
-
-pub returns-in-Ok-Opened-clause-keeps : goal.returns-in-Ok-Opened-clause-keeps
-returns-in-Ok-Opened-clause-keeps g c =
-    let asked = subst (Asks c.args.words.now (g.S.Source.left c.args.source.now) (g.S.Source.left c.wanted.new.source)) c.in-Ok-Opened.field-0-is c.in-Ok-Opened.ensures.asked in
-    plays_keep c.args.words.now
-    (outside (g.S.Source.left c.args.source.now) (g.S.Source.faults c.args.source.now) (g.K.Sink.written c.args.sink.now) (g.K.Sink.faults c.args.sink.now))
-    (outside (g.S.Source.left c.wanted.new.source) (g.S.Source.faults c.wanted.new.source) (g.K.Sink.written c.play.new.sink) (g.K.Sink.faults c.play.new.sink))
-    c.in-Ok-Opened.schedule c.in-Ok-Opened.world c.play.new.left asked c.in-Ok-Opened.ensures.counted c.play.result c.play.ensures
+    record {
+      ends = plays_end c.args.words.now
+          (outside (g.S.Source.left c.args.source.now) (g.S.Source.faults c.args.source.now) (g.K.Sink.written c.args.sink.now) (g.K.Sink.faults c.args.sink.now))
+          (outside (g.S.Source.left c.wanted.new.source) (g.S.Source.faults c.wanted.new.source) (g.K.Sink.written c.play.new.sink) (g.K.Sink.faults c.play.new.sink))
+          c.in-Ok-Opened.schedule c.in-Ok-Opened.world c.play.new.left asked c.in-Ok-Opened.ensures.counted c.play.result c.play.ensures;
+      keeps = plays_keep c.args.words.now
+          (outside (g.S.Source.left c.args.source.now) (g.S.Source.faults c.args.source.now) (g.K.Sink.written c.args.sink.now) (g.K.Sink.faults c.args.sink.now))
+          (outside (g.S.Source.left c.wanted.new.source) (g.S.Source.faults c.wanted.new.source) (g.K.Sink.written c.play.new.sink) (g.K.Sink.faults c.play.new.sink))
+          c.in-Ok-Opened.schedule c.in-Ok-Opened.world c.play.new.left asked c.in-Ok-Opened.ensures.counted c.play.result c.play.ensures;
+    }
