@@ -1,5 +1,4 @@
-//! Tests of `flat_model`: worked histories are taken as runs, and changed ones are not; and the steps that the machine
-//! takes by itself.
+//! Tests of `flat_model`: worked histories are taken as runs, and changed ones are not.
 
 use cl_types::call::{AtomicOp, Perm};
 use cl_types::config::{NodeConfig, OffloadConfig, OffloadList};
@@ -9,7 +8,6 @@ use cl_types::open_fault::OpenFault;
 use cl_types::reply::{Refusal, Reply};
 use cl_types::request::Request;
 use flat_model::check::check_step;
-use flat_model::execute::{allocate, read_bytes, show_bytes, write_bytes};
 use flat_model::flat::Flat;
 use flat_model::opening::create;
 use std::alloc::Global;
@@ -281,30 +279,5 @@ fn a_counter_is_locked_and_counts(rt: HostRuntime) -> Result<(), Fail> {
 fn a_store_of_two_keys_is_put_read_and_emptied(rt: HostRuntime) -> Result<(), Fail> {
     let flat = opened(rt.alloc(), 16, 8, true)?;
     assert_eq!(rt; first_wrong(rt.alloc(), flat, STORE)?, None);
-    Ok(())
-}
-
-/// What the machine does by itself, in order: an Alloc, a Write of the page, a Read of it, and a look at it.
-fn executes(alloc: Global, flat: Flat) -> Result<bool, NoMemory> {
-    let mut flat = flat;
-    let Some(pid) = try_pid(1) else {
-        return Ok(false);
-    };
-    let start = allocate(&mut flat, pid, 1, Perm::ReadWrite)?;
-    let written = write_bytes(alloc, &mut flat, pid, Addr(0x1ffd), b"abc")?;
-    let read = read_bytes(alloc, &flat, pid, Addr(0x1ffc), 4)?;
-    let shown = show_bytes(alloc, &flat, pid, Addr(0x1ffc), 2)?;
-    Ok(match (start, written, read, shown) {
-        (Reply::At(Addr(0x1000)), Reply::Nothing, Reply::Got(read), Some(shown)) => {
-            read.as_slice() == b"\0abc".as_slice() && shown.as_slice() == b"\0a".as_slice()
-        }
-        _ => false,
-    })
-}
-
-#[test]
-fn the_machine_takes_steps_by_itself(rt: HostRuntime) -> Result<(), Fail> {
-    let flat = opened(rt.alloc(), 16, 8, false)?;
-    assert!(rt; executes(rt.alloc(), flat)?);
     Ok(())
 }

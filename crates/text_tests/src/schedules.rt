@@ -2,10 +2,7 @@
 
 use cl_types::config::OffloadConfig;
 use cl_types::schedule::{CallText, Event, What};
-use schedule_text::{
-    CallWord, Kind, Reading, ScheduleFault, is_passed_over, kind_of, next_line, read, read_script,
-    too_long,
-};
+use schedule_text::{ScheduleFault, read, read_script};
 use std::alloc::Global;
 use std::test::Fail;
 
@@ -142,67 +139,5 @@ fn script_is_read(alloc: Global) -> Result<bool, ScheduleFault> {
 #[test]
 fn a_script_is_read(rt: HostRuntime) -> Result<(), Fail> {
     assert!(rt; script_is_read(rt.alloc())?);
-    Ok(())
-}
-
-/// Lines, and the kind that their words tell.
-const KINDS: [(&[u8], Option<Kind>); 9] = [
-    (b"deliver", Some(Kind::Deliver)),
-    (b"deliver next x", Some(Kind::DeliverNext)),
-    (b"call 1", None),
-    (b"call x free", Some(Kind::Call(CallWord::Free))),
-    (b"offload kv", Some(Kind::Offload)),
-    (b"offload", None),
-    (b"", None),
-    (b"hold", None),
-    (b"stat x", Some(Kind::Stat)),
-];
-
-/// The first line of another kind, by its place from 0.
-fn first_of_another_kind() -> Option<usize> {
-    for (at, (line, kind)) in KINDS.iter().enumerate() {
-        if kind_of(line) != *kind {
-            return Some(at);
-        }
-    }
-    None
-}
-
-#[test]
-fn the_kind_of_a_line_is_told_by_its_words(rt: HostRuntime) {
-    assert_eq!(rt; first_of_another_kind(), None);
-}
-
-const FOUR_LINES: &[u8] = b"node 16 8 4 4\nclient 1 1\n\ndrop";
-
-/// Whether four lines, of which the third is empty, are read one by one; a client is told as out of place behind them
-/// and an event is not; and they are given as a node, a client and an event, with their header.
-fn are_read_one_by_one(alloc: Global) -> Result<[bool; 4], ScheduleFault> {
-    let mut rest = FOUR_LINES;
-    let mut reading = Reading::create(alloc);
-    for number in 1..=4 {
-        if rest.is_empty() {
-            return Ok([false; 4]);
-        }
-        let (line, more) = next_line(rest);
-        if is_passed_over(line) != (number == 3) {
-            return Ok([false; 4]);
-        }
-        reading.read_line(alloc, number, line)?;
-        rest = more;
-    }
-    let are_judged = reading.place_fault(b"client 2 1") == Some(What::OutOfPlace)
-        && reading.place_fault(b"drop").is_none();
-    let are_given = reading.node().is_some()
-        && [reading.clients().len(), reading.events().len()] == [1, 1];
-    let schedule = reading.finish(5)?;
-    let is_header = schedule.header.as_slice() == b"node 16 8 4 4\nclient 1 1\n".as_slice();
-    Ok([rest.is_empty(), are_judged, are_given, is_header])
-}
-
-#[test]
-fn a_schedule_is_read_line_by_line(rt: HostRuntime) -> Result<(), Fail> {
-    assert!(rt; too_long(FOUR_LINES).is_none());
-    assert_eq!(rt; are_read_one_by_one(rt.alloc())?, [true; 4]);
     Ok(())
 }
