@@ -1,7 +1,7 @@
 -- Bytes put into a buffer, and what came of the parts whose bytes stand there.
 use Rattle.std.proofs.Common.{◌≡◌, ℕ, zero, suc, ◌+◌, ◌≤◌, List, [], ◌∷◌, ◌++◌, length, take, drop, set, Option, Some, None, refl, sym, ap, ◌∙◌, arith, append_assoc, slice_get, replicate}
 use Rattle.std.proofs.Math.Seq.{take-add}
-use Rattle.std.proofs.lemmas.List.{length-append, length-take-le, length-drop, take_at, take-take, drop_at, drop-drop}
+use Rattle.std.proofs.lemmas.List.{length-take-le, length-drop, take_at, take-take, drop_at, drop-drop}
 use Rattle.std.proofs.lemmas.Slice.{drop-append-drop}
 use Rattle.cl_types.specs.Bytes.{with_bytes}
 use Rattle.cl_types.specs.declared.reply.Reply.TheVariants as reply
@@ -10,18 +10,6 @@ use Rattle.call_cut.specs.declared.outcome.Outcome.{Outcome}
 use Rattle.call_cut.specs.declared.outcome.Outcome.TheVariants as outcome
 use Rattle.call_cut.specs.Fills.{before}
 use Rattle.call_cut.specs.Came.{ending_in, came_in}
-
--- bytes that fit leave the buffer as long as it was
-pub length-with_bytes : (at : ℕ) (bytes old : List ℕ) → at + length bytes ≤ length old → length (with_bytes at bytes old) ≡ length old
-length-with_bytes at bytes old fits =
-    let front : at ≤ length old = omega arith in
-    omega (
-      arith,
-      length-append (take at old ++ bytes) (drop (at + length bytes) old),
-      length-append (take at old) bytes,
-      length-take-le at old front,
-      length-drop (at + length bytes) old,
-    )
 
 -- bytes put behind the first n leave these
 with_bytes_behind : (n at : ℕ) (bytes old : List ℕ) → with_bytes (n + at) bytes old ≡ take n old ++ with_bytes at bytes (drop n old)

@@ -12,7 +12,6 @@ use Rattle.cl_types.specs.declared.request.Request.{Request}
 use Rattle.cl_types.specs.declared.request.Request.TheVariants as request
 use Rattle.cl_types.specs.declared.reply.Answer.{Answer}
 use Rattle.cl_types.specs.declared.reply.Answer.TheVariants as answer
-use Rattle.cl_types.specs.declared.reply.Refusal.{Refusal}
 use Rattle.cl_types.specs.declared.reply.Reply.TheVariants as reply
 use Rattle.cl_types.specs.declared.reply.Value.{Value}
 use Rattle.cl_types.specs.declared.reply.Value.TheVariants as value
@@ -26,6 +25,7 @@ use Rattle.call_cut.specs.Taking.{Gathers, is_outcome_of, are_outcomes_of}
 use Rattle.call_cut.specs.Ends.{is_waiting, given_up_among, refusal_among, failure_among, first_of, got_of, only_value_of, value_of, with_rest_cleared}
 use Rattle.call_cut.proofs.PieceLemmas.{total, total_pieces}
 use Rattle.call_cut.proofs.Takings.{length_fills, length_outcomes}
+use Rattle.client_model.proofs.Buffers.{refusal_cases}
 
 -- a walk over outcomes finds what a look at them all does
 pub found_here : (among : List Outcome → Option Answer) (os : List Outcome) (i : ℕ) (d o : Outcome) → i < length os → get_or os i d ≡ o
@@ -88,11 +88,6 @@ given_up_cases : (es : List Ending) → (first_given_up es ≡ None) ⊎ ((first
 given_up_cases [] = inl refl
 given_up_cases (Replied r ∷ es) = given_up_cases es
 given_up_cases (GivenUp first_sent now ∷ es) = inr (first_sent, now, refl)
-
-refusal_cases : (es : List Ending) → (first_refusal es ≡ None) ⊎ ((refusal : Refusal) × (first_refusal es ≡ Some (answer.Refused refusal)))
-refusal_cases [] = inl refl
-refusal_cases (Replied (reply.Refused refusal) ∷ es) = inr (refusal, refl)
-refusal_cases (e ∷ es) = refusal_cases es
 
 -- the answer is that failure, and the buffer is of zeros
 failed : (es : List Ending) (a : Answer) → first_of (first_given_up es) (first_refusal es) ≡ Some a → (d : Answer)

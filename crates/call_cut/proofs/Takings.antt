@@ -24,8 +24,9 @@ use Rattle.call_cut.specs.declared.outcome.Outcome.TheVariants as outcome
 use Rattle.call_cut.specs.Fills.{fills, before}
 use Rattle.call_cut.specs.Came.{came, came_in, ending_in}
 use Rattle.call_cut.specs.Taking.{TakesFor, Gathers, is_reply_to, is_outcome_of, are_outcomes_of, outcome_of, call_with}
-use Rattle.call_cut.proofs.Buffers.{length-with_bytes, came_set, came_put, came_none}
+use Rattle.call_cut.proofs.Buffers.{came_set, came_put, came_none}
 use Rattle.call_cut.proofs.PieceLemmas.{total, total_pieces, piece_place}
+use Rattle.cl_types.proofs.PutBytes.{length-with_bytes}
 
 -- ---- outcomes of parts
 -- a reply to a request makes an outcome of it

@@ -6,7 +6,7 @@ use Rattle.std.proofs.Math.Nat.{mul-div-mul_right, div-lt_iff_lt-mul, mul-lt-mul
 use Rattle.cl_types.specs.Places.{is_bucket_count, bucket_counts, hash_of, home_of}
 
 -- a test that each number of a list passes is passed by a number that is found there
-passed : (test : ℕ → Bool) (xs : List ℕ) (n : ℕ) → list_all test xs ≡ true → list_any (λ x. x == n) xs ≡ true → test n ≡ true
+pub passed : (test : ℕ → Bool) (xs : List ℕ) (n : ℕ) → list_all test xs ≡ true → list_any (λ x. x == n) xs ≡ true → test n ≡ true
 passed test [] n all found = absurd cc
 passed test (x ∷ xs) n all found = step (x == n) refl (passed test xs n (grind arith)) where
   step : (b : Bool) → (x == n) ≡ b → (list_any (λ x. x == n) xs ≡ true → test n ≡ true) → test n ≡ true

@@ -1,3 +1,4 @@
-mod HomeLemmas
+pub mod HomeLemmas
 pub mod PlaceLemmas
 pub mod RangeLemmas
+pub mod PutBytes

@@ -22,7 +22,7 @@ place_exact a b equal = exact_pairs nat_cmp nat_cmp exact_unsigned exact_unsigne
 abbrev pub same_place : Place → Place → Bool
 same_place a b = eq_by_cmp place_cmp a b
 
-equal_of : (order : Ordering) → is_eq order ≡ true → order ≡ Equal
+pub equal_of : (order : Ordering) → is_eq order ≡ true → order ≡ Equal
 equal_of Less equal = absurd cc
 equal_of Equal equal = refl
 equal_of Greater equal = absurd cc

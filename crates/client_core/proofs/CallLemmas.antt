@@ -7,15 +7,12 @@ use Rattle.client_model.specs.Order.{Footprint, may_go, ready_in}
 use Rattle.std.proofs.lemmas.Bool.Decides.{nat_tests}
 use Rattle.client_core.specs.Valid.{AreRising}
 use Rattle.client_core.specs.Held.{Held, held_at, print_of, next_part, may_send, part_to_send}
-use Rattle.client_core.proofs.Basics.{eqb_same, each_map, none_some}
+use Rattle.client_core.proofs.Basics.{none_some}
+use Rattle.lemmas.proofs.SameParts.{eqb_same}
+use Rattle.lemmas.proofs.Lists.{each_map}
+use Rattle.std.proofs.lemmas.List.{drop_all}
 
 -- ---- a search from a place of a list on
-pub drop_all : {X : Type 0} (i : ℕ) (xs : List X) → length xs ≤ i → drop i xs ≡ []
-drop_all zero [] h = refl
-drop_all zero (x ∷ xs) h = absurd (omega arith)
-drop_all (suc i) [] h = refl
-drop_all (suc i) (x ∷ xs) h = drop_all i xs (omega arith)
-
 pub find_from : {X : Type 0} (test : X → Bool) (xs : List X) (i : ℕ) (x : X) → slice_get xs i ≡ Some x → find test (drop i xs) ≡ cond (test x) (Some x) (find test (drop (i + 1) xs))
 find_from test [] i x e = none_some x e
 find_from {X} test (y ∷ xs) zero x e = let same : y ≡ x = cc in ap (λ (z : X). cond (test z) (Some z) (find test xs)) same

@@ -15,10 +15,13 @@ use Rattle.client_model.specs.Apart.{AreApart}
 use Rattle.client_core.specs.Valid.{AreRising}
 use Rattle.client_core.specs.Held.{Held, fence_first_in, has_unsent, held_at, may_send, next_part, part_to_send, print_of, request_at}
 use Rattle.client_core.specs.Fields.{call_in, flown_of, standing_by, standing_flown, standing_in, IsFit}
-use Rattle.client_core.proofs.Basics.{contrary, each_append, each_filter, each_filter_map, each_found, each_with, eqb_below, eqb_same, fence_emptied, none_some, print_emptied}
+use Rattle.client_core.proofs.Basics.{eqb_below, fence_emptied, none_some}
 use Rattle.client_core.proofs.Standing.{of_part, part_at}
 use Rattle.client_core.proofs.Naming.{IsThere, all_above, each_part, numbers, none_has, parts_from}
 use Rattle.client_core.proofs.Laws.{ids}
+use Rattle.lemmas.proofs.Lists.{each_append, each_filter_from as each_filter, each_filter_map_from as each_filter_map, find_some as each_found, each_weaker_with as each_with}
+use Rattle.lemmas.proofs.SameParts.{eqb_same, eqb_turned as turned}
+use Rattle.client_model.proofs.Buffers.{print_emptied}
 
 -- ---- finding
 pub find_flown : (test : Flown → Bool) (ss : List Sending) → find test (map flown_of ss) ≡ option_map flown_of (find (λ s. test (flown_of s)) ss)
@@ -28,9 +31,6 @@ find_flown test (s ∷ ss) = go (test (flown_of s)) (find_flown test ss)
     go : (b : Bool) → find test (map flown_of ss) ≡ option_map flown_of (find (λ s. test (flown_of s)) ss) → cond b (Some (flown_of s)) (find test (map flown_of ss)) ≡ option_map flown_of (cond b (Some s) (find (λ s. test (flown_of s)) ss))
     go true r = refl
     go false r = r
-
-turned : (m n : ℕ) → (m == n) ≡ false → (n == m) ≡ false
-turned m n h = grind (arith, nat_tests)
 
 -- the entry that a test finds is found by its id
 pub found_by_id : (test : Flown → Bool) (fs : List Flown) (g : Flown) → AreApart (ids fs) → find test fs ≡ Some g → find (λ x. x.orig == g.orig) fs ≡ Some g

@@ -13,8 +13,10 @@ use Rattle.client_core.specs.declared.ended.Ended.{Ended}
 use Rattle.client_core.specs.Rows.{AreKept, finished_of}
 use Rattle.client_core.specs.Valid.{AreRising}
 use Rattle.client_core.specs.Held.{Held, Holding, after_coming, changed, ended_of, ended_with, fence_first_in, has_unsent, held_at, print_of, request_at, with_came, with_ends, with_one_sent}
-use Rattle.client_core.proofs.Basics.{contrary, each_found, eqb_above, eqb_below, eqb_is, eqb_same, none_some}
+use Rattle.client_core.proofs.Basics.{contrary, eqb_above, eqb_below, none_some}
 use Rattle.client_core.proofs.Naming.{all_above, numbers}
+use Rattle.lemmas.proofs.Lists.{find_some as each_found}
+use Rattle.lemmas.proofs.SameParts.{eqb_is, eqb_same}
 
 -- ---- one call is changed
 none_changed : (n : ℕ) (g : Held → Held) (hs : List Held) → Each (λ (h : Held). n < h.number) hs → changed n g hs ≡ hs

@@ -1,8 +1,8 @@
 -- A call has come to an end in the client's state exactly where something came of each of its parts.
-use Rattle.std.proofs.Common.{◌≡◌, ℕ, zero, suc, ◌+◌, ◌<◌, ◌≤◌, List, [], ◌∷◌, ◌++◌, refl, ap, sym, ◌∙◌, Some, None, Option, Bool, true, false, cond, arith, map, length, get_or, drop, add-one, drop-cons}
+use Rattle.std.proofs.Common.{◌≡◌, ℕ, suc, ◌+◌, ◌<◌, ◌≤◌, List, [], ◌∷◌, ◌++◌, refl, ap, sym, ◌∙◌, Some, None, Option, Bool, true, false, cond, arith, map, length, get_or, drop, add-one, drop-cons}
 use Rattle.std.specs.Prelude.{nat_lt, find, filter, filter_map, flat_map, is_none, not, option_map, sum_by}
 use Rattle.std.specs.List.{AllByRecursion as Each, enumerate_from, cons_option}
-use Rattle.std.proofs.lemmas.List.{append-nil}
+use Rattle.std.proofs.lemmas.List.{append-nil, drop_all}
 use Rattle.std.proofs.lemmas.List.Elements.{filter_map-append}
 use Rattle.std.proofs.lemmas.List.Sums.{sum_by-append, sum_by-cons}
 use Rattle.cl_types.specs.declared.call.Call.{Call}
@@ -23,12 +23,6 @@ of_standing (Some e) sent f = refl
 of_standing None true (Some x) = refl
 of_standing None true None = refl
 of_standing None false f = refl
-
-drop_all : {X : Type 0} (i : ℕ) (xs : List X) → length xs ≤ i → drop i xs ≡ []
-drop_all zero [] h = refl
-drop_all zero (x ∷ xs) h = absurd (omega arith)
-drop_all (suc i) [] h = refl
-drop_all (suc i) (x ∷ xs) h = drop_all i xs (omega arith)
 
 drop_one : {X : Type 0} (i : ℕ) (xs : List X) (d : X) → i < length xs → drop i xs ≡ get_or xs i d ∷ drop (i + 1) xs
 drop_one i xs d h = rw (add-one, drop-cons xs i d)

@@ -1,5 +1,5 @@
 -- What is heard, by what was read and what is in flight.
-use Rattle.std.proofs.Common.{◌≡◌, ℕ, zero, suc, ◌+◌, ◌<◌, ◌≤◌, List, [], ◌∷◌, ◌++◌, refl, ap, sym, ◌∙◌, subst, Some, None, Option, Bool, true, false, cond, arith, map, length}
+use Rattle.std.proofs.Common.{◌≡◌, ℕ, zero, ◌+◌, ◌<◌, ◌≤◌, List, [], ◌∷◌, ◌++◌, refl, ap, sym, ◌∙◌, subst, Some, None, Option, Bool, true, false, cond, arith, map, length}
 use Rattle.std.specs.Prelude.{◌==◌, ◌&&◌, find, is_some, nat_lt, option_and_then, option_map, slice_get, slice_index}
 use Rattle.std.specs.List.{AllByRecursion as Each}
 use Rattle.std.proofs.lemmas.Bool.Decides.{nat_tests}
@@ -27,10 +27,12 @@ use Rattle.client_core.specs.declared.answers.Heard.TheVariants as heard
 use Rattle.client_core.specs.Answers.{ends_a_call, heard_answer, heard_as}
 use Rattle.client_core.specs.Held.{Held, Holding, IsAwaited, after_coming, held_at, request_at}
 use Rattle.client_core.specs.Fields.{flown_of, state_of, IsSound}
-use Rattle.client_core.proofs.Basics.{each_found, none_some}
+use Rattle.client_core.proofs.Basics.{none_some}
 use Rattle.client_core.proofs.Deciding.{find_flown, flight_requests}
 use Rattle.client_core.proofs.Polling.{entry_flies}
 use Rattle.client_core.proofs.Sounds.{Step, came_step, there}
+use Rattle.lemmas.proofs.Lists.{find_some as each_found}
+use Rattle.lemmas.proofs.SameParts.{and_left as left_of, and_right as right_of}
 
 -- ---- kinds
 same_kind : (a b : Kind) → (kind_number a == kind_number b) ≡ true → a ≡ b
@@ -146,14 +148,6 @@ fit_is bytes head k body pid x r =
         go true e = grind (arith, nat_tests)
         go false e = grind (arith, nat_tests)
 
-left_of : (a b : Bool) → (a && b) ≡ true → a ≡ true
-left_of true b e = refl
-left_of false b e = e
-
-right_of : (a b : Bool) → (a && b) ≡ true → b ≡ true
-right_of true b e = e
-right_of false b e = absurd cc
-
 never : (r : Reply) (q : Part) (x : Request) (st : Standing) → flight q x (answered r st) ≡ None
 never r q x Unsent = refl
 never r q x (InFlight orig first last) = refl
@@ -242,9 +236,6 @@ module _ (no : ClientNo) (pid issued sendings : ℕ) (calls : Holding) (f : Flig
       ∙ ap (HearsReply u.x) r.same_body)
       ((λ i. cond (ends_is i) (heard.Ended (sym u.part_is i)) (heard.Took (sym u.part_is i))) ∙ ap (λ (s : ClientState). cond (ends_a_call (state_of no pid issued sendings calls f last) s) (heard.Ended u.x.part) (heard.Took u.x.part)) step.state_is)
       step.state_is
-
-pub same_no : (m n : ℕ) → m ≡ n → (m == n) ≡ true
-same_no m n e = grind (arith, nat_tests)
 
 pub other_no : (m n : ℕ) → (m ≡ n → ⊥) → (m == n) ≡ false
 other_no m n ne = grind (arith, nat_tests)

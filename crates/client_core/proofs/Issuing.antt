@@ -30,11 +30,15 @@ use Rattle.client_model.specs.Apart.{AreApart}
 use Rattle.client_core.specs.Valid.{AreRising, IsHeld, IsValid, name_of}
 use Rattle.client_core.specs.Held.{Held, Holding, fence_first_in, new_held}
 use Rattle.client_core.specs.Fields.{call_in, flown_among, flown_of, standing_by, standing_in, state_of, IsFit, IsSound}
-use Rattle.client_core.proofs.Basics.{cut_emptied, each_append, emptied_twice, eqb_below, eqb_same, faults_emptied, fence_emptied, fence_parts, none_some}
+use Rattle.client_core.proofs.Basics.{emptied_twice, eqb_below, faults_emptied, fence_emptied, fence_parts, none_some}
 use Rattle.client_core.proofs.Ending.{flying}
 use Rattle.client_core.proofs.Naming.{all_above, numbers, parts_from}
 use Rattle.client_core.proofs.Laws.{IsId, ids, left, origs_are, rising_end, rising_lower}
 use Rattle.client_core.proofs.Sounds.{Step, numbers_in, rising}
+use Rattle.client_model.proofs.Buffers.{cut_emptied}
+use Rattle.lemmas.proofs.Lists.{each_append}
+use Rattle.lemmas.proofs.SameParts.{eqb_same}
+use Rattle.std.proofs.lemmas.Bool.{ltb-false as not_more}
 
 -- ---- a good call
 no_fault : (b : Bool) (x : IssueFault) (rest : Option IssueFault) → cond b (Some x) rest ≡ None → (b ≡ false) × (rest ≡ None)
@@ -43,9 +47,6 @@ no_fault false x rest h = (refl, h)
 
 some_bytes : (n : ℕ) → (n == 0) ≡ false → 0 < n
 some_bytes n h = grind (arith, nat_tests)
-
-not_more : (m n : ℕ) → nat_lt m n ≡ false → n ≤ m
-not_more m n h = grind (arith, nat_tests)
 
 pub record GoodParts (k : Call) : Type 0 where
   pub some : is_fence k ≡ false → 1 ≤ length (cut k)

@@ -17,9 +17,10 @@ use Rattle.client_retry.specs.Flights.{is_before, with_flown, without, sent_agai
 use Rattle.client_model.specs.Apart.{AreApart}
 use Rattle.client_core.specs.Valid.{AreRising, IsHeld, IsValid, name_of, origs, sendings_left}
 use Rattle.client_core.specs.Fields.{flown_of, flown_among}
-use Rattle.client_core.proofs.Basics.{none_some, each_weaker, each_filter}
+use Rattle.client_core.proofs.Basics.{none_some}
 use Rattle.client_core.proofs.Flying.{InOrder, HasStanding, unchanged, same_is}
 use Rattle.client_core.proofs.Ending.{going_on, counted_ends, sum_ends}
+use Rattle.lemmas.proofs.Lists.{each_weaker, each_filter_from as each_filter}
 
 -- ---- numbers that rise
 pub rising_lower : (m n last : ℕ) (ns : List ℕ) → m ≤ n → AreRising n last ns → AreRising m last ns

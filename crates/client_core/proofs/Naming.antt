@@ -16,9 +16,11 @@ use Rattle.client_core.specs.Held.{Held, held_at, IsAwaited}
 use Rattle.client_model.specs.Apart.{AreApart}
 use Rattle.client_core.specs.Valid.{AreRising}
 use Rattle.client_core.specs.Fields.{standing_by, standing_flown, standing_in, call_in, flown_of, flown_among, IsFit}
-use Rattle.client_core.proofs.Basics.{eqb_same, eqb_is, eqb_below, contrary, fence_parts, none_some, each_weaker, each_with, each_append, each_filter_map, each_map, each_found}
+use Rattle.client_core.proofs.Basics.{eqb_below, contrary, fence_parts, none_some}
 use Rattle.client_core.proofs.Flying.{InOrder, HasStanding, IsNamed, same_is}
 use Rattle.client_core.proofs.Standing.{part_at, same_refl, Only, of_part}
+use Rattle.lemmas.proofs.SameParts.{eqb_same, eqb_is}
+use Rattle.lemmas.proofs.Lists.{each_weaker, each_weaker_with as each_with, each_append, each_filter_map_from as each_filter_map, each_map, find_some as each_found}
 
 -- ---- the parts of one call
 abbrev pub parts_from : (Part → Standing) → ℕ → ℕ → List Request → List ClientPart

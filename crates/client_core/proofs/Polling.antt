@@ -23,12 +23,14 @@ use Rattle.client_core.specs.Answers.{poll_answer, poll_bytes, frame_bytes}
 use Rattle.client_core.specs.Held.{Held, Holding, IsAwaited, after_coming, changed, has_unsent, held_at, may_send, next_part, part_to_send, print_of, request_at, with_one_sent}
 use Rattle.client_core.specs.Fields.{call_in, flown_of, state_of, IsFit, IsSound}
 use Rattle.client_core.specs.Polls.{Does, due_in}
-use Rattle.client_core.proofs.Basics.{each_found, eqb_is, none_some}
+use Rattle.client_core.proofs.Basics.{none_some}
 use Rattle.client_core.proofs.Naming.{IsInFlight, IsThere}
 use Rattle.client_core.proofs.Laws.{IsId, fresh_id, ids, left}
 use Rattle.client_core.proofs.Deciding.{find_flown, flight_requests, found_by_id, next_found, sendable_request}
 use Rattle.client_core.proofs.Sounds.{Step, again_step, apart, came_step, flying, known, rising, sent_step, there, vacant}
 use Rattle.cl_types.specs.Times.{is_old as is_old_at, is_due as is_due_at}
+use Rattle.lemmas.proofs.Lists.{find_some as each_found}
+use Rattle.lemmas.proofs.SameParts.{eqb_is}
 
 -- the rules of time, of a sending
 abbrev is_old : ℕ → Sending → Bool

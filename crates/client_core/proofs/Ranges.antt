@@ -1,5 +1,5 @@
 -- The parts of a good call are in the ranges that a frame can carry.
-use Rattle.std.proofs.Common.{◌≡◌, ℕ, zero, suc, ◌+◌, ◌-◌, ◌*◌, ◌/◌, ◌%◌, ◌<◌, ◌≤◌, List, [], ◌∷◌, ◌++◌, refl, subst, Bool, true, false, cond, arith, Option, Some, None, length, map, take, drop}
+use Rattle.std.proofs.Common.{◌≡◌, ℕ, ◌+◌, ◌-◌, ◌*◌, ◌/◌, ◌%◌, ◌<◌, ◌≤◌, List, ◌++◌, refl, true, false, arith, Option, Some, None, length, map, take, drop}
 use Rattle.std.specs.Prelude.{leb, nat_lt, ◌==◌, ◌&&◌, not, option_and_then, slice_get}
 use Rattle.std.specs.List.{AllByRecursion as Each}
 use Rattle.std.proofs.lemmas.Bool.Decides.{nat_tests}
@@ -10,10 +10,9 @@ use Rattle.cl_types.specs.declared.numbers.Addr.{Addr}
 use Rattle.cl_types.specs.declared.call.Call.{Call}
 use Rattle.cl_types.specs.declared.call.Call.TheVariants as call
 use Rattle.cl_types.specs.declared.call.AtomicOp.{AtomicOp}
-use Rattle.cl_types.specs.declared.frame.IssueFault.{IssueFault}
 use Rattle.cl_types.specs.declared.request.Request.{Request}
 use Rattle.cl_types.specs.declared.request.Request.TheVariants as request
-use Rattle.client_model.specs.Cut.{cut, pieces, pieces_within, piece_len}
+use Rattle.client_model.specs.Cut.{cut, pieces}
 use Rattle.frame_model.specs.Faults.{first_fault}
 use Rattle.client_model.specs.Issue.{call_faults}
 use Rattle.cl_types.specs.Ranges.{are_bytes, has_words, is_in_range}
@@ -21,63 +20,17 @@ use Rattle.cl_types.specs.declared.reply.Part.{Part}
 use Rattle.client_core.specs.Held.{Held, held_at, request_at}
 use Rattle.client_core.specs.Fields.{IsFit}
 use Rattle.client_core.specs.Typed.{is_typed_request}
-use Rattle.client_core.proofs.Basics.{each_found, each_map, each_weaker, none_some}
+use Rattle.client_core.proofs.Basics.{none_some}
+use Rattle.client_model.proofs.Pieces.{GoodBytes, GoodPiece, good_bytes, no_faults, pieces_good}
+use Rattle.lemmas.proofs.Lists.{find_some as each_found, each_map, each_weaker, each_slice_get as each_slice}
+use Rattle.lemmas.proofs.SameParts.{and_left as left_of, and_right as right_of}
+use Rattle.lemmas.proofs.Passes.{both}
 
 -- the request is in its range, where its numbers are those of their types
 abbrev pub InRange : Request → Type 0
 InRange q = is_typed_request q ≡ true → is_in_range q ≡ true
 
--- ---- faults
-no_faults : (fs : List (Bool × IssueFault)) → first_fault fs ≡ None → Each (λ (f : Bool × IssueFault). f.0 ≡ false) fs
-no_faults [] e = tt
-no_faults (f ∷ fs) e = go f.0 refl (no_faults fs) e
-  where
-    go : (b : Bool) → f.0 ≡ b → (first_fault fs ≡ None → Each (λ (f : Bool × IssueFault). f.0 ≡ false) fs) → cond b (Some f.1) (first_fault fs) ≡ None → Each (λ (f : Bool × IssueFault). f.0 ≡ false) (f ∷ fs)
-    go true t rec e = grind arith
-    go false t rec e = (t, rec e)
-
--- what the faults of bytes at an address leave
-record GoodBytes (addr n most len : ℕ) : Type 0 where
-  some : 1 ≤ n
-  at_most : n ≤ most
-  ends : addr + len ≤ ADDRESS_END
-
-good_bytes : (addr n most len : ℕ) → (n == 0) ≡ false → nat_lt most n ≡ false → nat_lt ADDRESS_END (addr + len) ≡ false → GoodBytes addr n most len
-good_bytes addr n most len x y z = record { some = grind (arith, nat_tests); at_most = grind (arith, nat_tests); ends = grind (arith, nat_tests) }
-
--- ---- pieces
-record GoodPiece (at left : ℕ) (p : ℕ × ℕ) : Type 0 where
-  some : 1 ≤ p.1
-  most : p.1 ≤ PART_BYTES
-  page : p.0 % PAGE_BYTES + p.1 ≤ PAGE_BYTES
-  from : at ≤ p.0
-  to : p.0 + p.1 ≤ at + left
-
-piece_good : (at left : ℕ) → (left == 0) ≡ false → GoodPiece at left (at, piece_len at left)
-piece_good at left e =
-    let n : 1 ≤ left = grind (arith, nat_tests) in
-    record { some = omega arith; most = omega arith; page = omega arith; from = omega arith; to = omega arith }
-
-pieces_good : (most at left : ℕ) → Each (GoodPiece at left) (pieces_within most at left)
-pieces_good zero at left = tt
-pieces_good (suc most) at left = go (left == 0) refl (pieces_good most (at + piece_len at left) (left - piece_len at left))
-  where
-    go : (b : Bool) → (left == 0) ≡ b → Each (GoodPiece (at + piece_len at left) (left - piece_len at left)) (pieces_within most (at + piece_len at left) (left - piece_len at left)) →
-        Each (GoodPiece at left) (elim b [ true ↦ [] | false ↦ (at, piece_len at left) ∷ pieces_within most (at + piece_len at left) (left - piece_len at left) ])
-    go true e h = tt
-    go false e h = (
-      piece_good at left e,
-      each_weaker _ _ (λ (p : ℕ × ℕ) (g : GoodPiece (at + piece_len at left) (left - piece_len at left) p).
-          let n : 1 ≤ left = grind (arith, nat_tests) in
-          let from : at + piece_len at left ≤ p.0 = g.from in let to : p.0 + p.1 ≤ at + piece_len at left + (left - piece_len at left) = g.to in
-          record { some = g.some; most = g.most; page = g.page; from = omega arith; to = omega arith }) _ h,
-    )
-
 -- ---- each kind of call
-both : (a b : Bool) → a ≡ true → b ≡ true → (a && b) ≡ true
-both true b e f = f
-both false b e f = e
-
 free_in_range : (addr : Addr) (pages : ℕ) → GoodBytes addr.0 pages RANGE_PAGES (PAGE_BYTES * pages) → not (addr.0 % PAGE_BYTES == 0) ≡ false → is_in_range (request.Free addr pages) ≡ true
 free_in_range addr pages g e =
     let a : 1 ≤ pages = g.some in let b : pages ≤ RANGE_PAGES = g.at_most in let c : addr.0 + PAGE_BYTES * pages ≤ ADDRESS_END = g.ends in
@@ -104,14 +57,6 @@ atomic_in_range addr op g e typed =
     let c : addr.0 + 8 ≤ ADDRESS_END = g.ends in let q : addr.0 < ADDRESS_END = omega arith in
     both _ (has_words op) (grind (arith, nat_tests)) typed
 
-left_of : (a b : Bool) → (a && b) ≡ true → a ≡ true
-left_of true b e = refl
-left_of false b e = e
-
-right_of : (a b : Bool) → (a && b) ≡ true → b ≡ true
-right_of true b e = e
-right_of false b e = absurd cc
-
 offload_in_range : (number op out : ℕ) (bytes : List ℕ) → nat_lt PART_BYTES (length bytes) ≡ false → nat_lt PART_BYTES out ≡ false → InRange (request.Offload number op out bytes)
 offload_in_range number op out bytes d e typed =
     both _ (are_bytes bytes) (both _ (leb (length bytes) PART_BYTES) (both _ (leb out PART_BYTES) (left_of (nat_lt number 256 && nat_lt op 256) (are_bytes bytes) typed) (grind (arith, nat_tests))) (grind (arith, nat_tests)))
@@ -137,11 +82,6 @@ cut_in_range (call.Offload number op bytes buf) e =
     let h = no_faults (call_faults (call.Offload number op bytes buf)) e in
     (offload_in_range number op (length buf) bytes h.0 h.1.0, tt)
 cut_in_range call.Fence e = tt
-
-each_slice : {X : Type 0} (P : X → Type 0) (xs : List X) (i : ℕ) (x : X) → Each P xs → slice_get xs i ≡ Some x → P x
-each_slice P [] i x h e = none_some x e
-each_slice P (y ∷ xs) zero x h e = let same : y ≡ x = cc in subst P same h.0
-each_slice P (y ∷ xs) (suc i) x h e = each_slice P xs i x h.1 e
 
 pub part_in_range : (k : Call) (i : ℕ) (q : Request) → first_fault (call_faults k) ≡ None → slice_get (cut k) i ≡ Some q → InRange q
 part_in_range k i q good at = each_slice InRange (cut k) i q (cut_in_range k good) at

@@ -17,12 +17,14 @@ use Rattle.client_model.specs.Apart.{AreApart}
 use Rattle.client_core.specs.Valid.{AreRising, IsHeld, IsValid, sendings_left}
 use Rattle.client_core.specs.Held.{Held, Holding, IsGoing, after_coming, changed, ended_of, has_unsent, held_at, next_part, with_came, with_one_sent}
 use Rattle.client_core.specs.Fields.{call_in, flown_among, standing_by, standing_flown, standing_in, state_of, IsFit, IsSound}
-use Rattle.client_core.proofs.Basics.{contrary, eqb_is, each_filter, each_found, each_weaker, each_with}
+use Rattle.client_core.proofs.Basics.{contrary}
 use Rattle.client_core.proofs.Flying.{InOrder, HasStanding, flown_again, flown_sent, flown_without, same_is}
 use Rattle.client_core.proofs.Standing.{Comes, Next, calls_again, calls_came, calls_sent, Only, of_part}
 use Rattle.client_core.proofs.Ending.{ended_ends, finished_is, flown_ends, going_on, held_ends}
 use Rattle.client_core.proofs.Naming.{IsInFlight, IsThere, all_in_flight, all_named, all_there, has_standing, in_order, numbers, only_part, only_there}
 use Rattle.client_core.proofs.Laws.{IsId, ids, left, origs_are, parts_changed, sum_changed, valid_again, valid_left, valid_sent}
+use Rattle.lemmas.proofs.SameParts.{eqb_is}
+use Rattle.lemmas.proofs.Lists.{each_filter_from as each_filter, find_some as each_found, each_weaker, each_weaker_with as each_with}
 
 -- ---- calls that fit
 pub fit_came : (i : ℕ) (e : Ending) (h : Held) → IsFit h → i < h.sent → IsFit (with_came i e h)

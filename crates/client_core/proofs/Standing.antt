@@ -14,8 +14,9 @@ use Rattle.client_retry.specs.declared.flown.Flown.{Flown}
 use Rattle.client_retry.specs.Flights.{is_before, with_flown, without, sent_again, has_part}
 use Rattle.client_core.specs.Held.{Held, changed, with_came, with_one_sent}
 use Rattle.client_core.specs.Fields.{standing_by, standing_flown, standing_in, call_in}
-use Rattle.client_core.proofs.Basics.{eqb_same, eqb_is, contrary}
+use Rattle.client_core.proofs.Basics.{contrary}
 use Rattle.client_core.proofs.Flying.{same_is}
+use Rattle.lemmas.proofs.SameParts.{eqb_same, eqb_is}
 
 abbrev pub part_at : ℕ → ℕ → Part
 part_at n j = record { call = record { 0 = n }; part = j }

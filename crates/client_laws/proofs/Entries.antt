@@ -1,11 +1,12 @@
 -- Lemmas on the first of a list, and on the entries of a history.
-use Rattle.std.proofs.Common.{◌≡◌, List, [], ◌∷◌, ◌++◌, refl, Some, None, Option, Bool, true, false, arith}
+use Rattle.std.proofs.Common.{◌≡◌, List, [], ◌∷◌, ◌++◌, refl, Some, None, Option, arith}
 use Rattle.std.specs.Prelude.{unwrap_or}
 use Rattle.std.specs.List.{AllByRecursion as Each}
 use Rattle.cl_types.specs.declared.line.Entry.{Entry}
-use Rattle.trace.specs.Account.{with_entry, with_entries, is_before}
+use Rattle.trace.specs.Account.{with_entry, with_entries}
 use Rattle.trace.specs.Clients.{first_of}
 use Rattle.client_model.specs.Client.{first_some}
+use Rattle.trace.proofs.HistoryLemmas.{each_with_entry}
 
 pub first_of-append : {X : Type 0} (xs ys : List X) (x : X) → first_of xs ≡ Some x → first_of (xs ++ ys) ≡ Some x
 first_of-append [] ys x e = grind arith
@@ -23,13 +24,6 @@ pub first_case : {X : Type 0} (P : X → Type 0) (os : List (Option X)) (d : X) 
 first_case P [] d h k = k
 first_case P (None ∷ os) d h k = first_case P os d h.1 k
 first_case P (Some x ∷ os) d h k = h.0 x refl
-
-pub each_with_entry : (P : Entry → Type 0) (e : Entry) (h : List Entry) → P e → Each P h → Each P (with_entry e h)
-each_with_entry P e [] p h = (p, tt)
-each_with_entry P e (x ∷ xs) p h = go (is_before e.line e.position x) (each_with_entry P e xs p h.1) where
-  go : (b : Bool) → Each P (with_entry e xs) → Each P (elim b [ true ↦ x ∷ with_entry e xs | false ↦ e ∷ x ∷ xs ])
-  go true k = (h.0, k)
-  go false k = (p, h)
 
 pub each_with_entries : (P : Entry → Type 0) (es h : List Entry) → Each P es → Each P h → Each P (with_entries es h)
 each_with_entries P [] h k m = m

@@ -29,6 +29,7 @@ use Rattle.lemmas.proofs.SameParts.{contrary, eqb_is, same_clients}
 use Rattle.client_laws.proofs.Cases.{Cases, peek_is_quiet, effect_by}
 use Rattle.client_laws.proofs.Premises.{Premises, premises_next, premises_nothing, no_fence_ends, quiet_ends_none, items_end_none, sent_ends_none}
 use Rattle.client_laws.proofs.CallsOfClient.{every_more, map_map}
+use Rattle.std.proofs.lemmas.Bool.{not-false as not_false}
 
 -- ---- what has ended stays so
 over_stays : (a : Account) (l : ℕ) (event : Event) (e : Effect) (c : ClientNo) (p : Part) → Told a c → is_some (ending_of (standing_at a c p)) ≡ true → is_some (ending_of (standing_at (extended a l event e) c p)) ≡ true
@@ -77,10 +78,6 @@ ended_stays a l event e c n k told h =
     go false (Some x) (Some y) stays h = refl
 
 -- ---- the places of calls
-not_false : (b : Bool) → not b ≡ false → b ≡ true
-not_false true h = refl
-not_false false h = grind arith
-
 -- a place whose call has ended
 pub runs_not : (a : Account) (c : ClientNo) (m : ℕ) (k : Call) → slice_get (issued a c) m ≡ Some k → runs a c m ≡ false → has_ended a c (call_standing (standing_at a c) (m + 1, k)) ≡ true
 runs_not a c m k at_place h =

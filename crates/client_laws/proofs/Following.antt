@@ -36,6 +36,7 @@ use Rattle.client_laws.proofs.ClientLines.{poll_law, after_issuing, after_taking
 use Rattle.client_laws.proofs.Cases.{IsQuiet, peek_is_quiet}
 use Rattle.client_laws.proofs.Premises.{Silent, quiet_is_silent, quiet_ends_none, items_end_none, sent_silent, sent_ends_none, cond_none, no_fence_ends, Premises}
 use Rattle.client_laws.proofs.Fences.{Followed, followed}
+use Rattle.std.proofs.Math.Bool.{and-false as and_false}
 
 -- ---- lines that say nothing of the client
 pub none_count : {X : Type 0} (test : X → Bool) (xs : List X) → Each (λ (x : X). test x ≡ false) xs → count_by test xs ≡ 0
@@ -79,10 +80,6 @@ quiet_leaves config a l event c h d quiet neither =
     after_quiet config a l event (says d) c h.told (is_unsaid a l event (says d) c (quiet_unsaid c (now a l) d quiet, tt) (λ n. no_fence_ends a l event (says d) c n (quiet_ends_none d quiet, tt)) neither.no_call neither.no_poll)
 
 -- ---- a call
-and_false : (b : Bool) → (b && false) ≡ false
-and_false true = refl
-and_false false = refl
-
 own_call : (config : Config) (a : Account) (l : ℕ) (c : ClientNo) (text : CallText) → Premises a c → (o : Option IssueFault) → issue_fault (client_at config a c) (call_of text) ≡ o
     → client_at config (extended a l (event.Call c text) (on_judged (client_at config a c) o)) c ≡ after_judged o (call_of text) (client_at config a c)
 own_call config a l c text h None is = after_issuing config a l c text h.told h.fresh is

@@ -1,14 +1,13 @@
 -- A client of an account lets a call go exactly where it depends on none of the calls that have not ended.
-use Rattle.std.proofs.Common.{◌≡◌, ℕ, zero, suc, ◌+◌, List, [], ◌∷◌, refl, ap, sym, ◌∙◌, subst, Some, None, Bool, true, false, cond, arith, map, length}
+use Rattle.std.proofs.Common.{◌≡◌, ℕ, zero, suc, ◌+◌, List, [], ◌∷◌, refl, ap, sym, ◌∙◌, subst, Some, Bool, true, false, cond, arith, map}
 use Rattle.std.specs.Prelude.{filter, ◌&&◌, not, nat_lt, slice_get}
 use Rattle.std.specs.List.{list_all}
 use Rattle.std.proofs.lemmas.Bool.Decides.{nat_tests}
-use Rattle.std.proofs.lemmas.List.{length-replicate}
 use Rattle.cl_types.specs.declared.numbers.ClientNo.{ClientNo}
 use Rattle.cl_types.specs.declared.config.Config.{Config}
 use Rattle.cl_types.specs.declared.call.Call.{Call}
 use Rattle.cl_types.specs.declared.call.Call.TheVariants as call
-use Rattle.client_model.specs.Order.{Footprint, footprint, waits_for, may_go, pages_over}
+use Rattle.client_model.specs.Order.{Footprint, footprint, waits_for, may_go}
 use Rattle.trace.specs.Account.{Account, nothing_yet}
 use Rattle.client_model.specs.Client.{ClientCall, emptied, call_standing, prints}
 use Rattle.trace.specs.Clients.{issued, numbered, standing_at, has_ended, client_at}
@@ -17,16 +16,7 @@ use Rattle.client_laws.specs.Readiness.{WaitsForNone, runs, ReadyInAccounts}
 use Rattle.client_laws.proofs.Fences.{Followed, followed, runs_is, standing_calls, standing_place}
 use Rattle.client_laws.proofs.Readiness.{ready_means, means_ready}
 use Rattle.lemmas.proofs.SameParts.{and_left, and_right}
-
--- the zeros of a buffer count as its bytes
-pub print_emptied : (k : Call) → footprint (emptied k) ≡ footprint k
-print_emptied (call.Alloc pages perm) = refl
-print_emptied (call.Free addr pages) = refl
-print_emptied (call.Read addr buf) = ap (λ n. record { pages = pages_over addr.0 n; reads = true; fence = false; offload = None }) (length-replicate (length buf) 0)
-print_emptied (call.Write addr bytes) = refl
-print_emptied (call.Atomic addr op) = refl
-print_emptied (call.Offload number op bytes buf) = refl
-print_emptied call.Fence = refl
+use Rattle.client_model.proofs.Buffers.{print_emptied}
 
 -- ---- what holds of all that pass a test
 all_passes : {Y Z : Type 0} (T : Z → Bool) (f : Y → Z) (test : Y → Bool) (ys : List Y) → list_all T (map f (filter test ys)) ≡ true → (m : ℕ) (y : Y) → slice_get ys m ≡ Some y → test y ≡ true → T (f y) ≡ true

@@ -22,18 +22,17 @@ use Rattle.schedule_text.specs.declared.fault.ScheduleFault.{ScheduleFault}
 use Rattle.schedule_text.specs.declared.fault.ScheduleFault.TheVariants.{TooLong}
 use Rattle.schedule_text.specs.declared.fault.TheConstants.{MOST_BYTES, MOST_LINES}
 use Rattle.lemmas.proofs.Lists.{each_append, each_weaker}
-use Rattle.trace_texts.proofs.ReadSchedules.{IsMeasured, IsSaid, no_ok, ok_is, words_say}
+use Rattle.trace_texts.proofs.ReadSchedules.{IsMeasured, IsSaid, no_ok, ok_is, words_say, later}
 use Rattle.client_model.specs.Apart.{AreApart}
 use Rattle.world.specs.Running.{HaveNumbersApart, IsFair}
 use Rattle.clio_cli.specs.Suited.{SchedulesAreSuited}
+use Rattle.lemmas.proofs.SameParts.{eqb_turned as turned}
+use Rattle.std.proofs.lemmas.Bool.{not-false as not_false}
 
 abbrev number : ClientNo × ℕ → ℕ
 number given = given.0.0
 
 -- ---- numbers of clients
-turned : (m n : ℕ) → (m == n) ≡ false → (n == m) ≡ false
-turned m n h = grind (arith, nat_tests)
-
 both_false : (a b : Bool) → (a || b) ≡ false → (a ≡ false) × (b ≡ false)
 both_false false b h = (refl, h)
 both_false true b h = grind arith
@@ -58,10 +57,6 @@ no_first : (b : Bool) (what : What) (more : List (Bool × What)) → first_fault
 no_first false what more none = (refl, none)
 no_first true what more none = absurd (let never : ◌≡◌ {A = Option What} (Some what) None = none in grind arith)
 
-not_false : (b : Bool) → not b ≡ false → b ≡ true
-not_false true h = refl
-not_false false h = grind arith
-
 -- ---- events
 fair_event : (r : Reading) (e : Event) → IsMeasured e → first_fault (event_faults r e) ≡ None → IsFair e
 fair_event r (event.Tick by) measured none = measured.1
@@ -83,9 +78,6 @@ record Suits (n : ℕ) (r : Reading) : Type 0 where
   apart : AreApart (map number r.clients)
   before : Each (λ (e : ℕ × Event). e.0 < n) r.events
   fair : Each (λ (e : ℕ × Event). IsFair e.1) r.events
-
-later : (n : ℕ) (es : List (ℕ × Event)) → Each (λ (e : ℕ × Event). e.0 < n) es → Each (λ (e : ℕ × Event). e.0 < n + 1) es
-later n es low = each_weaker (λ (e : ℕ × Event). e.0 < n) (λ (e : ℕ × Event). e.0 < n + 1) (λ (e : ℕ × Event) (lt : e.0 < n). omega arith) es low
 
 few : (n : ℕ) → leb MOST_CLIENTS n ≡ false → n + 1 ≤ MOST_CLIENTS
 few n h = grind (arith, nat_tests)

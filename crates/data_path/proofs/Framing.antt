@@ -1,9 +1,9 @@
 -- How a store stays whole, and what it means, after bytes were written or a page got a frame.
-use Rattle.std.proofs.Common.{Bool, true, false, T, ◌≡◌, ◌≢◌, ℕ, ◌+◌, ◌<◌, ◌≤◌, ◌&&◌, not, cond, if◌then◌else◌, eqb, leb, le-leb, is_none, is_some, IfSome, slice_get, length-append, take, drop, ◌⊎◌, inl, inr, List, [], ◌∷◌, ◌++◌, set, length, filter, count_by, Option, Some, None, option_map, refl, sym, ap, ◌∙◌, subst, arith}
+use Rattle.std.proofs.Common.{Bool, true, false, T, ◌≡◌, ◌≢◌, ℕ, ◌+◌, ◌<◌, ◌≤◌, ◌&&◌, not, cond, if◌then◌else◌, eqb, leb, le-leb, is_none, is_some, IfSome, slice_get, length-append, drop, ◌⊎◌, inl, inr, List, [], ◌∷◌, ◌++◌, set, length, filter, count_by, Option, Some, None, option_map, refl, sym, ap, ◌∙◌, subst, arith}
 use Rattle.std.specs.FinMap.Entries.{find, put, where_key, is_sorted, find-put, is_sorted-put, same_entries}
 use Rattle.std.proofs.Math.Logic.{∥∥₁_map}
 use Rattle.std.proofs.lemmas.Bool.{lt-leb, cases_Bool, cases_eq, eq-eqb}
-use Rattle.std.proofs.lemmas.List.{get_or-set_same, get_or-set_other, length-set, length-take, length-drop, length-replicate}
+use Rattle.std.proofs.lemmas.List.{get_or-set_same, get_or-set_other, length-set}
 use Rattle.std.proofs.lemmas.List.Sums.{sum_by-cons}
 use Rattle.std.proofs.lemmas.List.Elements.{filter-append}
 use Rattle.cl_types.specs.declared.call.Perm.{Perm}
@@ -32,6 +32,8 @@ use Rattle.data_path.specs.Access.{IsFramed, IsOpen}
 use Rattle.data_path.proofs.Accesses.{changed_open, page_there, bytes_framed, bytes_fresh}
 use Rattle.data_path.proofs.Keyed.{around, put_same}
 use Rattle.data_path.proofs.Pages.{find-pages_in, sorted_pages, backed-put, spans-put, pages_in-put, pages_in-other}
+use Rattle.cl_types.proofs.PutBytes.{length-with_bytes}
+use Rattle.flat_model.proofs.FreshLemmas.{length_fresh}
 
 -- as many pages have bytes as entries have frames
 pub used_is : (s : PageStore) → used (memory_of s) ≡ backed s.table.entries
@@ -79,11 +81,6 @@ page_other a b pte h = λ i. record { perm = pte.perm; bytes = on pte.frame refl
     on : (o : Option PageNo) → pte.frame ≡ o → option_map (λ (frame : PageNo). arena_page b frame.0) o ≡ option_map (λ (frame : PageNo). arena_page a frame.0) o
     on None is = refl
     on (Some frame) is = ap (λ (l : List ℕ). Some l) (h frame is)
-
-length-with_bytes : (at : ℕ) (bytes old : List ℕ) → at + length bytes ≤ length old → length (with_bytes at bytes old) ≡ length old
-length-with_bytes at bytes old within =
-    length-append (take at old ++ bytes) (drop (at + length bytes) old)
-    ∙ omega (arith, within, length-append (take at old) bytes, length-take at old, length-drop (at + length bytes) old)
 
 module _ (s : PageStore) (place : Place) (pte : Pte) (frame : PageNo) (whole : IsFit s) (there : entry_of s.table place ≡ Some pte) (framed : pte.frame ≡ Some frame) where
   -- one page has changed
@@ -250,10 +247,6 @@ cached_put k pte c d table cached here others q x found = entry-with table k pte
       rw f.1 (cached q x noted)
 ]
 
-fresh_size : length fresh_bytes ≡ 4096
-unfolding fresh_bytes
-fresh_size = length-replicate {A = ℕ} 4096 0
-
 module _ (s : PageStore) (k : Place) (pte : Pte) (frame : PageNo) (one two : PoolPages) (arena : List (List ℕ)) (cache : Cached) where
   abbrev pub with_frame : Pte
   with_frame = record pte { frame = Some frame }
@@ -357,7 +350,7 @@ module _ (s : PageStore) (k : Place) (pte : Pte) (frame : PageNo) (one two : Poo
       named = omega (arith, backed-put k pte with_frame s.table.entries frame sorted g.there g.fresh refl, g.whole.named, free_is s.pool, free_is two, ap length g.front, ap length g.free, pages);
       arena = g.long ∙ g.whole.arena ∙ sym pages;
       sized = λ q f h. elim (before q f h) [
-        | inl t ↦ ap length (ap (arena_page arena) t.1 ∙ frame_zero) ∙ fresh_size
+        | inl t ↦ ap length (ap (arena_page arena) t.1 ∙ frame_zero) ∙ length_fresh
         | inr u ↦ ap length (same_bytes q f u.1) ∙ g.whole.sized q f u.1
       ];
       zero = g.zero;

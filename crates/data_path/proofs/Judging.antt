@@ -1,7 +1,7 @@
 -- What a configuration gives that opens.
 use Rattle.std.proofs.Common.{◌≡◌, ℕ, zero, suc, ◌+◌, ◌<◌, ◌≤◌, Bool, true, false, not, cond, leb, inl, inr, List, [], ◌∷◌, ◌++◌, map, take, get_or, length, Option, Some, None, option_map, refl, sym, ap, ◌∙◌, subst, arith}
 use Rattle.std.specs.List.{find, range_with_len}
-use Rattle.std.proofs.lemmas.Bool.{cases_Bool}
+use Rattle.std.proofs.lemmas.Bool.{cases_Bool, and_parts, not-false}
 use Rattle.std.proofs.lemmas.Bool.Decides.{nat_tests}
 use Rattle.cl_types.specs.declared.config.Field.{Field}
 use Rattle.cl_types.specs.declared.config.NodeConfig.{NodeConfig}
@@ -11,7 +11,6 @@ use Rattle.cl_types.specs.Config.{bad_number_of, first_bad, judged_offload, offl
 use Rattle.cl_types.specs.declared.open_fault.OpenFault.{OpenFault}
 use Rattle.flat_model.specs.Opening.{first_without_room, has_room, held_by, if_none_bad, open_fault, room_fault}
 use Rattle.flat_model.specs.Rows.{AreFourAtMost}
-use Rattle.flat_model.proofs.BucketLemmas.{first_of_both}
 use Rattle.flat_model.proofs.OpeningLemmas.{few_offloads, few_read, four_held, good_offload}
 use Rattle.data_path.specs.Store.{held_places}
 use Rattle.data_path.proofs.Opened.{held-map}
@@ -40,15 +39,11 @@ not_found test start (suc n) (suc k) none within = elim (cases_Bool (test start)
       ap test (let e : start + suc k ≡ (start + 1) + k = omega arith in e) ∙ not_found test (start + 1) n k rest (omega (arith, within))
 ]
 
-yes : (b : Bool) → not b ≡ false → b ≡ true
-yes true is = refl
-yes false is = absurd cc
-
 room_there : (c : NodeConfig) (k : ℕ) → open_fault c ≡ None → k < length c.offloads → has_room c (held_by c (k + 1)) ≡ true
 room_there c k none within =
     let first : first_without_room c ≡ None = unmapped_none _ (first_without_room c) (neither (bad_number_of c) (room_fault c) none).1 in
     let lacks : ℕ → Bool = λ j. not (has_room c (held_by c (j + 1))) in
-    yes (has_room c (held_by c (k + 1))) (ap lacks (let e : k ≡ 0 + k = omega arith in e) ∙ not_found lacks 0 (length c.offloads) k first within)
+    not-false (has_room c (held_by c (k + 1))) (ap lacks (let e : k ≡ 0 + k = omega arith in e) ∙ not_found lacks 0 (length c.offloads) k first within)
 
 pub spaces_next : (offloads : List OffloadConfig) (k : ℕ) (d : OffloadConfig) → k < length offloads
     → map offload_pages (take k offloads) ++ offload_pages (get_or offloads k d) ∷ [] ≡ map offload_pages (take (k + 1) offloads)
@@ -71,7 +66,7 @@ module _ (c : NodeConfig) (k : ℕ) (spaces : List ℕ) (none : open_fault c ≡
   -- and into the node
   pub enough_there : (pages : ℕ) → pages ≡ c.pages → length (held_places 0 spaces) ≤ pages
   enough_there pages same =
-      let few : leb (length (held_by c (k + 1))) c.pages ≡ true = first_of_both _ _ (room_there c k none within) in
+      let few : leb (length (held_by c (k + 1))) c.pages ≡ true = (and_parts _ _ (room_there c k none within)).0 in
       let most : length (held_by c (k + 1)) ≤ c.pages = grind (arith, nat_tests) in
       omega (arith, most, ap length held_is, same)
 

@@ -1,5 +1,5 @@
 -- Lists of entries in the order of their keys: an entry that is put where one of its key stands, or where none does.
-use Rattle.std.proofs.Common.{T, ◌≡◌, Bool, true, false, ◌&&◌, cond, inl, inr, List, [], ◌∷◌, ◌++◌, length, Some, None, refl, sym, ap, ◌∙◌, arith}
+use Rattle.std.proofs.Common.{T, ◌≡◌, cond, inl, inr, List, [], ◌∷◌, ◌++◌, length, Some, None, refl, sym, ap, ◌∙◌, arith}
 use Rattle.std.specs.Cmp.{IsTotalOrder}
 use Rattle.std.specs.FinMap.{IsAntisymmetric}
 use Rattle.std.specs.FinMap.Entries.{find, put, is_sorted, find-put, is_sorted-put, same_entries, by_order}
@@ -7,15 +7,8 @@ use Rattle.std.specs.Ordering.{eq_by_cmp, is_eq}
 use Rattle.std.specs.declared.cmp.Ordering.{Ordering}
 use Rattle.std.specs.declared.cmp.Ordering.TheVariants.{Less, Equal, Greater}
 use Rattle.std.proofs.lemmas.Bool.{cases_Bool}
-
-equal_of : (order : Ordering) → is_eq order ≡ true → order ≡ Equal
-equal_of Less equal = absurd cc
-equal_of Equal equal = refl
-equal_of Greater equal = absurd cc
-
-tail_of : (a b : Bool) → T (a && b) → T b
-tail_of true b both = both
-tail_of false b both = absurd both
+use Rattle.cl_types.proofs.PlaceLemmas.{equal_of}
+use Rattle.flat_model.proofs.PutLemmas.{tail_of}
 
 module _ {K X : Type 0} (R : K → K → Ordering) (total : IsTotalOrder R) (exact : IsAntisymmetric R) where
   -- an entry that stands is put there again

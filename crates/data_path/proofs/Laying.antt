@@ -28,19 +28,10 @@ use Rattle.translate_cache.specs.Cached.{Cached}
 use Rattle.data_path.specs.declared.store.PageStore.{PageStore}
 use Rattle.data_path.specs.Store.{held_places, no_entries}
 use Rattle.data_path.specs.Laying.{Row, rows_of, spanned, rows_from, numbered, IsBehind, IsLaid}
+use Rattle.flat_model.proofs.FitLemmas.{range_next}
+use Rattle.page_pool.proofs.Filling.{range_append}
 
 -- ---- numbers one after another
-range_split : (t n : ℕ) → 0 < n → range_with_len t n ≡ t ∷ range_with_len (t + 1) (n - 1)
-range_split t zero some = absurd (omega (arith, some))
-range_split t (suc n) some = ap (λ m. t ∷ range_with_len (t + 1) m) (let e : n ≡ suc n - 1 = omega arith in e)
-
-range_join : (t a b : ℕ) → range_with_len t a ++ range_with_len (t + a) b ≡ range_with_len t (a + b)
-range_join t zero b = λ i. range_with_len ((let e : t + 0 ≡ t = omega arith in e) i) ((let e : b ≡ 0 + b = omega arith in e) i)
-range_join t (suc a) b =
-    let start : t + suc a ≡ (t + 1) + a = omega arith in
-    let long : suc (a + b) ≡ suc a + b = omega arith in
-    ap (λ l. t ∷ l) (ap (λ n. range_with_len (t + 1) a ++ range_with_len n b) start ∙ range_join (t + 1) a b) ∙ ap (range_with_len t) long
-
 -- a number below them is none of them
 pub has-range : (t n page : ℕ) → page < t → has (range_with_len t n) page ≡ false
 has-range t zero page below = refl
@@ -212,7 +203,7 @@ module _ (s : PageStore) (place : Place) (span : ℕ) (frame : PageNo) (table : 
     one_more = ap length entries_are ∙ length-append s.table.entries ((place, placed_entry) ∷ [])
 
     free_now : length s.table.entries ∷ range_with_len (length s.table.entries + 1) (s.pool.pages - length s.table.entries - 1) ≡ frame.0 ∷ free_list pool
-    free_now = sym (range_split (length s.table.entries) (s.pool.pages - length s.table.entries) (omega (arith, p.less))) ∙ sym p.laid.free ∙ p.front
+    free_now = sym (range_next (length s.table.entries) (s.pool.pages - length s.table.entries) (omega (arith, p.less))) ∙ sym p.laid.free ∙ p.front
 
     frame_is : frame.0 ≡ length s.table.entries
     frame_is = sym (first_same _ _ _ _ free_now)
@@ -348,7 +339,7 @@ module _ (table : PageMap) (pool : PoolPages) (arena : List (List ℕ)) (cache :
         ap free_list m.pool_is
         ∙ ap (λ l. range_with_len 0 first ++ l) (append-nil (range_with_len first (pages - ring)))
         ∙ ap (λ n. range_with_len 0 first ++ range_with_len n (pages - ring)) (let e : first ≡ 0 + first = omega arith in e)
-        ∙ range_join 0 first (pages - ring) ∙ ap (range_with_len 0) (let e : min pages ring + (pages - ring) ≡ pages = omega arith in e)
+        ∙ range_append 0 first (pages - ring) ∙ ap (range_with_len 0) (let e : min pages ring + (pages - ring) ≡ pages = omega arith in e)
 
     pub laid_made : IsLaid (record { table = table; pool = pool; arena = arena; cache = cache; spaces = spaces })
     laid_made = record {

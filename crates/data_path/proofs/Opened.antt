@@ -1,11 +1,11 @@
 -- A store whose offloads are mapped is whole, and means the memory at the opening.
-use Rattle.std.proofs.Common.{◌≡◌, ◌≢◌, ℕ, zero, suc, ◌+◌, ◌-◌, ◌<◌, ◌≤◌, ◌==◌, ◌&&◌, if◌then◌else◌, Bool, true, false, not, cond, leb, inl, inr, is_some, List, [], ◌∷◌, ◌++◌, map, length, length-append, slice_get, Option, Some, None, Result, Ok, Err, IfOk, refl, sym, ap, ◌∙◌, subst, arith}
+use Rattle.std.proofs.Common.{◌≡◌, ◌≢◌, ℕ, zero, suc, ◌+◌, ◌-◌, ◌<◌, ◌≤◌, ◌==◌, ◌&&◌, if◌then◌else◌, Bool, true, false, not, cond, leb, inl, inr, is_some, List, [], ◌∷◌, ◌++◌, map, length, length-append, slice_get, Option, Some, None, refl, sym, ap, ◌∙◌, subst, arith}
 use Rattle.std.specs.Option.{option_or}
 use Rattle.std.specs.Map.{lookup}
 use Rattle.std.specs.FinMap.Entries.{find, where_key}
 use Rattle.std.proofs.lemmas.Bool.{cases_Bool, cases_eq}
 use Rattle.std.proofs.lemmas.Bool.Decides.{nat_tests}
-use Rattle.std.proofs.lemmas.List.{length-map, length-replicate}
+use Rattle.std.proofs.lemmas.List.{length-map}
 use Rattle.std.proofs.lemmas.List.FromFn.{length-range_with_len}
 use Rattle.cl_types.specs.declared.call.Perm.TheVariants.{ReadWrite}
 use Rattle.cl_types.specs.declared.config.NodeConfig.{NodeConfig}
@@ -34,6 +34,7 @@ use Rattle.data_path.specs.Store.{pages_in, spans_in, backed, held_places, flat_
 use Rattle.data_path.specs.Laying.{Row, rows_of, spanned, rows_from, numbered, IsLaid}
 use Rattle.data_path.specs.Opened.{zeroed_page, ranges_from, opened_memory}
 use Rattle.data_path.proofs.Laying.{entry_for, keys-rows, keys-rows_from, has-range}
+use Rattle.flat_model.proofs.FreshLemmas.{length_fresh}
 
 -- ---- frames by their numbers
 -- the frame of a page tells its row
@@ -329,10 +330,6 @@ spans-rows k (offload ∷ offloads) =
     spans-both (spanned n (places_of (65280 + k) 1 n)) (rows_from (k + 1) (map offload_pages offloads))
     ∙ (λ i. spans_range (65280 + k) n (some_pages offload) i ++ spans-rows (k + 1) offloads i)
 
-fresh_size : length fresh_bytes ≡ 4096
-unfolding fresh_bytes
-fresh_size = length-replicate {A = ℕ} 4096 0
-
 -- ---- the store whose offloads are mapped
 module _ (s : PageStore) (laid : IsLaid s) (rows : rows_of s.table.entries ≡ rows_from 0 s.spaces) where
   entries_are : s.table.entries ≡ numbered 0 (rows_from 0 s.spaces)
@@ -374,7 +371,7 @@ module _ (s : PageStore) (laid : IsLaid s) (rows : rows_of s.table.entries ≡ r
       length-append s.pool.clean s.pool.dirty,
     );
     arena = laid.arena;
-    sized = λ place frame is. ap length (laid.zeroed frame (below place frame is)) ∙ fresh_size;
+    sized = λ place frame is. ap length (laid.zeroed frame (below place frame is)) ∙ length_fresh;
     zero = laid.zero;
     cached = λ place pte noted. absurd (let none : cached_entry s.cache place ≡ None = ap (λ (c : Cached). lookup (is_place place) c.entries) laid.uncached in let both = sym none ∙ noted in cc);
   }

@@ -19,7 +19,7 @@ use Rattle.page_arena.specs.Arena.{page_at as arena_page}
 use Rattle.page_pool.specs.PoolPages.{PoolPages, free_list, free_pages, AreZero}
 use Rattle.range_alloc.specs.Ranges.{AreRanges, AreTaken, IsIn, frame_at, frames_of, new_page, span_at, with_pages, with_range, without_range}
 use Rattle.range_alloc.proofs.Among.{among-true, among-page, among-none, among-rest, among-more}
-use Rattle.range_alloc.proofs.Entries.{entry-with_range, entry-without, entry-without_range, frame_in, page_in as range_page, sorted_table, sorted-with_range}
+use Rattle.range_alloc.proofs.Entries.{entry-with_range, entry-without, entry-without_range, frame_in, page_in as range_page, sorted_table, sorted-with_range, sorted-with_pages}
 use Rattle.range_alloc.proofs.Fitting.{page_mapped}
 use Rattle.range_alloc.proofs.Frames.{taken_same}
 use Rattle.translate_cache.specs.Cached.{Cached}
@@ -149,10 +149,6 @@ find-new perm span space start (suc n) es q isnt none = elim (split_place q (spa
       ∙ rw f.1 (find-new perm 0 space (start + 1) n es q (sym (among-rest space start n q f.0) ∙ isnt) none)
 ]
 
-sorted-new : (perm : Perm) (span : ℕ) (places : List Place) (es : List (Place × Pte)) → T (is_sorted place_cmp es) → T (is_sorted place_cmp (with_pages perm span places es))
-sorted-new perm span [] es sorted = sorted
-sorted-new perm span (place ∷ places) es sorted = is_sorted-put place_cmp place_total place (new_page perm span) (with_pages perm 0 places es) (sorted-new perm 0 places es sorted)
-
 -- the new pages have no frame
 backed-new : (perm : Perm) (span space start n : ℕ) (es : List (Place × Pte)) → ((q : Place) → is_among space start n q ≡ true → find place_cmp q es ≡ None)
     → backed (with_pages perm span (places_of space start n) es) ≡ backed es
@@ -170,7 +166,7 @@ pages_in-new : (arena : List (List ℕ)) (perm : Perm) (span : ℕ) (places : Li
     → pages_in arena (with_pages perm span places es) ≡ with_fresh perm places (pages_in arena es)
 pages_in-new arena perm span [] es before = refl
 pages_in-new arena perm span (place ∷ places) es before =
-    pages_in-put arena place (new_page perm span) (with_pages perm 0 places es) (sorted-new perm 0 places es before)
+    pages_in-put arena place (new_page perm span) (with_pages perm 0 places es) (sorted-with_pages perm 0 places es before)
     ∙ ap (put place_cmp place (record { perm = perm; bytes = None })) (pages_in-new arena perm 0 places es before)
 
 module _ (s : PageStore) (space start n : ℕ) (perm : Perm) (whole : IsFit s) (some : 0 < n)

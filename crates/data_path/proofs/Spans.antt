@@ -9,19 +9,12 @@ use Rattle.cl_types.specs.declared.page.Pte.{Pte}
 use Rattle.cl_types.specs.Places.{Place, place_cmp}
 use Rattle.cl_types.proofs.PlaceLemmas.{same_place, same_place-true}
 use Rattle.data_path.specs.Store.{spans_in}
+use Rattle.flat_model.proofs.PutLemmas.{head_of, tail_of}
 
 -- the number of pages of the range that an entry begins
 abbrev pub span_of : Option Pte → Option ℕ
 span_of None = None
 span_of (Some pte) = if pte.span == 0 then None else Some pte.span
-
-head_of : (a b : Bool) → T (a && b) → T a
-head_of true b h = tt
-head_of false b h = absurd h
-
-tail_of : (a b : Bool) → T (a && b) → T b
-tail_of true b h = h
-tail_of false b h = absurd h
 
 both_of : (a b : Bool) → T a → T b → T (a && b)
 both_of true b h k = k

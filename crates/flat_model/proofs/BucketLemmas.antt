@@ -1,22 +1,15 @@
 -- A test of every bucket is one of the buckets of the pages alone.
 use Rattle.std.proofs.Common.{◌≡◌, ◌⊎◌, inl, inr, ⊎_elim, ℕ, zero, suc, ◌+◌, ◌*◌, ◌/◌, ◌^◌, ◌<◌, ◌≤◌, ◌==◌, ◌&&◌, leb, nat_lt, nat_le, Bool, true, false, cond, List, [], ◌∷◌, refl, ap, subst, ◌∙◌, arith}
-use Rattle.std.specs.List.{list_all, list_any, range_with_len}
+use Rattle.std.specs.List.{list_all, range_with_len}
 use Rattle.std.specs.Cmp.{both_ways}
-use Rattle.std.proofs.lemmas.Bool.{cases_lt}
+use Rattle.std.proofs.lemmas.Bool.{cases_lt, and_parts}
 use Rattle.std.proofs.lemmas.Bool.Decides.{nat_tests}
 use Rattle.std.proofs.lemmas.List.Sums.{sum_by-cons}
 use Rattle.std.proofs.Math.Nat.{div-lt_iff_lt-mul, mod-lt}
 use Rattle.cl_types.specs.Places.{Place, is_bucket_count, bucket_counts, hash_of, home_of, homes_at}
+use Rattle.cl_types.proofs.HomeLemmas.{passed}
 
 -- ---- the home of a page is a bucket
--- a test that each number of a list passes is passed by a number that is found there
-passed : (test : ℕ → Bool) (xs : List ℕ) (n : ℕ) → list_all test xs ≡ true → list_any (λ x. x == n) xs ≡ true → test n ≡ true
-passed test [] n all found = absurd cc
-passed test (x ∷ xs) n all found = step (x == n) refl (passed test xs n (grind arith)) where
-  step : (b : Bool) → (x == n) ≡ b → (list_any (λ x. x == n) xs ≡ true → test n ≡ true) → test n ≡ true
-  step true is rest = let same : x ≡ n = grind (arith, nat_tests) in subst (λ m. test m ≡ true) same (grind arith)
-  step false is rest = rest (grind (arith, nat_tests))
-
 abbrev is_fair : ℕ → Bool
 is_fair b = nat_lt 0 (2 ^ 32 / b) && nat_le b 65536 && (2 ^ 32 / b * b == 2 ^ 32)
 
@@ -41,17 +34,11 @@ each : {A : Type 0} (test : A → Bool) (xs : List A) → ((x : A) → test x �
 each test [] passes = refl
 each test (x ∷ xs) passes = ap (λ b. b && list_all test xs) (passes x) ∙ each test xs passes
 
-pub first_of_both : (a b : Bool) → (a && b) ≡ true → a ≡ true
-first_of_both a b both = grind arith
-
-pub second_of_both : (a b : Bool) → (a && b) ≡ true → b ≡ true
-second_of_both a b both = grind arith
-
 in_range : (test : ℕ → Bool) (first n k : ℕ) → list_all test (range_with_len first n) ≡ true → first ≤ k → k < first + n → test k ≡ true
 in_range test first zero k all low high = absurd (omega (arith, low, high))
-in_range test first (suc n) k all low high = step (first == k) refl (λ apart. in_range test (first + 1) n k (second_of_both _ _ all) apart (omega (arith, high))) where
+in_range test first (suc n) k all low high = step (first == k) refl (λ apart. in_range test (first + 1) n k (and_parts _ _ all).1 apart (omega (arith, high))) where
   step : (b : Bool) → (first == k) ≡ b → (first + 1 ≤ k → test k ≡ true) → test k ≡ true
-  step true is rest = let same : first ≡ k = grind (arith, nat_tests) in subst (λ m. test m ≡ true) same (first_of_both _ _ all)
+  step true is rest = let same : first ≡ k = grind (arith, nat_tests) in subst (λ m. test m ≡ true) same (and_parts _ _ all).0
   step false is rest = rest (grind (arith, nat_tests))
 
 module _ (b : ℕ) (test : ℕ → ℕ → Bool) (empty : (home : ℕ) → test home 0 ≡ true) (pages : List Place) where
@@ -65,9 +52,9 @@ module _ (b : ℕ) (test : ℕ → ℕ → Bool) (empty : (home : ℕ) → test 
   -- a bucket has none of these pages, or it passes as one of them does
   bucket_of : (some : List Place) (home : ℕ) → list_all of_page some ≡ true → (homes_at b home some ≡ 0) ⊎ (of_bucket home ≡ true)
   bucket_of [] home all = inl refl
-  bucket_of (page ∷ some) home all = step (home_of b page == home) refl (bucket_of some home (second_of_both _ _ all)) where
+  bucket_of (page ∷ some) home all = step (home_of b page == home) refl (bucket_of some home (and_parts _ _ all).1) where
     step : (t : Bool) → (home_of b page == home) ≡ t → (homes_at b home some ≡ 0) ⊎ (of_bucket home ≡ true) → (homes_at b home (page ∷ some) ≡ 0) ⊎ (of_bucket home ≡ true)
-    step true is rest = let same : home_of b page ≡ home = grind (arith, nat_tests) in inr (subst (λ h. of_bucket h ≡ true) same (first_of_both _ _ all))
+    step true is rest = let same : home_of b page ≡ home = grind (arith, nat_tests) in inr (subst (λ h. of_bucket h ≡ true) same (and_parts _ _ all).0)
     step false is rest = ⊎_elim
         (λ none. inl (sum_by-cons (λ place. cond (home_of b place == home) 1 0) page some ∙ ap (λ t. cond t 1 0 + homes_at b home some) is ∙ omega (arith, none)))
         (λ passes. inr passes) rest

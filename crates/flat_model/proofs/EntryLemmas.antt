@@ -6,13 +6,13 @@ use Rattle.std.proofs.lemmas.List.Quantifiers.{position-Some}
 use Rattle.std.proofs.lemmas.List.Sums.{prefix_len-le-length}
 use Rattle.std.proofs.lemmas.Option.{cond_some, get_or_from_slice_get, slice_get_read}
 use Rattle.std.specs.declared.cmp.Ordering.{Ordering}
-use Rattle.std.specs.declared.cmp.Ordering.TheVariants.{Less, Equal, Greater}
 use Rattle.std.specs.List.{position, position_or_len, insert}
 use Rattle.std.specs.Cmp.{IsTotalOrder}
 use Rattle.std.specs.FinMap.{IsAntisymmetric}
 use Rattle.std.specs.FinMap.Entries.{find, put, is_sorted}
-use Rattle.std.specs.Ordering.{eq_by_cmp, is_eq, is_lt}
+use Rattle.std.specs.Ordering.{eq_by_cmp, is_lt}
 use Rattle.flat_model.proofs.PutLemmas.{T_of, put_at, insert_is_put, sorted_put}
+use Rattle.cl_types.proofs.PlaceLemmas.{equal_of}
 
 -- ---- positions
 position_next : {X : Type 0} (p : X → Bool) (x : X) (xs : List X) → p x ≡ false → position p (x ∷ xs) ≡ None → position p xs ≡ None
@@ -26,11 +26,6 @@ position_is p xs i at = sym (cond_some _ _ _ at).1
 
 pub position_end : {X : Type 0} (p : X → Bool) (xs : List X) → position p xs ≡ None → length xs ≡ position_or_len p xs
 position_end p xs none = let within : position_or_len p xs ≤ length xs = prefix_len-le-length (λ x. not (p x)) xs in grind (arith, nat_tests)
-
-equal_of : (r : Ordering) → is_eq r ≡ true → r ≡ Equal
-equal_of Less h = absurd cc
-equal_of Equal h = refl
-equal_of Greater h = absurd cc
 
 -- a value that was read at an index
 pub read_value : {K V : Type 0} (lent entries : List (K × V)) (i : ℕ) (entry : K × V) → lent ≡ entries → i < length entries → entry ≡ get_or lent i entry

@@ -32,7 +32,7 @@ load_is s home =
     ∙ ap (λ n. n + homes_at s.buckets home s.held) (count_mapped (λ (entry : Place × Page). entry.0) (λ place. home_of s.buckets place == home) s.map)
 
 -- ---- one page or bucket after another
-range_next : (first left : ℕ) → 0 < left → range_with_len first left ≡ first ∷ range_with_len (first + 1) (left - 1)
+pub range_next : (first left : ℕ) → 0 < left → range_with_len first left ≡ first ∷ range_with_len (first + 1) (left - 1)
 range_next first zero some = absurd (omega (arith, some))
 range_next first (suc left) some = ap (λ k. first ∷ range_with_len (first + 1) k) (omega arith)
 

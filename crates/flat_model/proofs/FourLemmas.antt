@@ -11,7 +11,8 @@ use Rattle.cl_types.specs.declared.call.Perm.{Perm}
 use Rattle.flat_model.specs.Rows.{AreFourAtMost, AreInOrder, keys}
 use Rattle.flat_model.specs.State.{FlatState, Page, fits, places, places_of}
 use Rattle.flat_model.specs.Step.{with_fresh}
-use Rattle.flat_model.proofs.BucketLemmas.{first_of_both, four_everywhere, second_of_both}
+use Rattle.flat_model.proofs.BucketLemmas.{four_everywhere}
+use Rattle.std.proofs.lemmas.Bool.{and_parts}
 
 -- an entry written at its index keeps the keys
 pub keys_set : {V : Type 0} (entries : List (Place × V)) (i : ℕ) (entry : Place × V) (v : V) → i < length entries → entry ≡ get_or entries i entry → keys (set entries i (entry.0, v)) ≡ keys entries
@@ -79,8 +80,8 @@ four_kept b test entries kept held is four home =
 same_tests : (f g : ℕ → Bool) (xs : List ℕ) → ((x : ℕ) → f x ≡ g x) → list_all f xs ≡ true → list_all g xs ≡ true
 same_tests f g [] same all = refl
 same_tests f g (x ∷ xs) same all =
-    let first : g x ≡ true = sym (same x) ∙ first_of_both (f x) (list_all f xs) all in
-    let rest : list_all g xs ≡ true = same_tests f g xs same (second_of_both (f x) (list_all f xs) all) in
+    let first : g x ≡ true = sym (same x) ∙ (and_parts (f x) (list_all f xs) all).0 in
+    let rest : list_all g xs ≡ true = same_tests f g xs same (and_parts (f x) (list_all f xs) all).1 in
     ap (λ b. b && list_all g xs) first ∙ rest
 
 both_four : (b : ℕ) (ps qs : List Place) → list_all (λ h. leb (homes_at b h ps + homes_at b h qs) 4) (range_with_len 0 b) ≡ true

@@ -11,11 +11,7 @@ use Rattle.flat_model.specs.Objects.{Object, Given, object_step}
 use Rattle.flat_model.specs.State.{FlatState}
 use Rattle.flat_model.specs.Step.{Outcome, given, offload, on_object}
 use Rattle.flat_model.proofs.CheckLemmas.{checks_refused}
-
-set_same : {A : Type 0} (xs : List A) (i : ℕ) (x : A) → slice_get xs i ≡ Some x → slice_set xs i x ≡ xs
-set_same [] i x there = refl
-set_same (y ∷ xs) zero x there = let same : y ≡ x = cc there in ap (λ z. z ∷ xs) (sym same)
-set_same (y ∷ xs) (suc i) x there = ap (λ ys. y ∷ ys) (set_same xs i x there)
+use Rattle.flat_model.proofs.RunLemmas.{set_same}
 
 module _ (s : FlatState) (number out : ℕ) (object : Object) (there : slice_get s.objects number ≡ Some object) where
   given_reply : (g : Given) → (given s number out g).reply ≡ reply_given out g

@@ -17,8 +17,9 @@ use Rattle.cl_types.specs.declared.open_fault.OpenFault.TheVariants.{NoRoom}
 use Rattle.flat_model.specs.Opening.{held_by, has_room, first_without_room, pages_at, room_fault}
 use Rattle.flat_model.specs.State.{held_from, places_of}
 use Rattle.flat_model.specs.Rows.{AreFourAtMost, has_room_among}
-use Rattle.flat_model.proofs.BucketLemmas.{each_bucket, four_everywhere, second_of_both}
+use Rattle.flat_model.proofs.BucketLemmas.{each_bucket, four_everywhere}
 use Rattle.flat_model.proofs.FitLemmas.{numbers_next}
+use Rattle.std.proofs.lemmas.Bool.{and_parts}
 
 -- ---- good numbers
 -- where no number is bad the first is good, and those behind it
@@ -163,7 +164,7 @@ buckets_held c k none within four =
 
 -- pages that have room bring no bucket above four
 pub four_held : (c : NodeConfig) (k : ℕ) → bad_number_of c ≡ None → has_room c (held_by c k) ≡ true → AreFourAtMost c.buckets (held_by c k)
-four_held c k none room home = four_everywhere c.buckets (held_by c k) home (good_buckets c none) (second_of_both (leb (length (held_by c k)) c.pages) _ room)
+four_held c k none room home = four_everywhere c.buckets (held_by c k) home (good_buckets c none) (and_parts (leb (length (held_by c k)) c.pages) _ room).1
 
 pub same_pages : (test : Place → Bool) (space other n m : ℕ) → space ≡ other → n ≡ m → list_all test (places_of space 1 n) ≡ list_all test (places_of other 1 m)
 same_pages test space other n m same_space same_n = λ i. list_all test (places_of (same_space i) 1 (same_n i))

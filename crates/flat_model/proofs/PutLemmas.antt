@@ -16,11 +16,11 @@ pub of_T : (b : Bool) → T b → b ≡ true
 of_T true h = refl
 of_T false h = absurd h
 
-head_of : (a b : Bool) → T (a && b) → T a
+pub head_of : (a b : Bool) → T (a && b) → T a
 head_of true b h = tt
 head_of false b h = absurd h
 
-tail_of : (a b : Bool) → T (a && b) → T b
+pub tail_of : (a b : Bool) → T (a && b) → T b
 tail_of true b h = h
 tail_of false b h = absurd h
 

@@ -3,22 +3,19 @@ use Rattle.std.proofs.Common.{◌≡◌, ℕ, zero, suc, ◌%◌, ◌==◌, Bool
 use Rattle.std.proofs.lemmas.Bool.Decides.{nat_tests}
 use Rattle.cl_types.specs.Requests.{is_changing}
 use Rattle.cl_types.specs.declared.line.Entry.{Entry}
-use Rattle.cl_types.specs.declared.numbers.Addr.{Addr}
 use Rattle.cl_types.specs.declared.request.Request.TheVariants as request
 use Rattle.flat_model.specs.Objects.{Object, KvObject, Pairs, Given, kv_step, object_step}
 use Rattle.flat_model.specs.State.{FlatState}
-use Rattle.flat_model.specs.Step.{given, read, on_object}
+use Rattle.flat_model.specs.Step.{given, on_object}
 use Rattle.flat_model.specs.Run.{after, after_entry, changing_of, IsRunFrom}
 use Rattle.flat_model.specs.RunLaws.{StateAfterIsFixed, ReadingChangesNothing, ChangingEntriesSuffice, RunsSplit}
+use Rattle.flat_model.proofs.CheckLemmas.{read_keeps}
 
 pub state_after_is_fixed : StateAfterIsFixed
 state_after_is_fixed s pid request reply new other step step' = step.after ∙ sym step'.after
 
 -- ---- reading requests
-read_keeps : (s : FlatState) (pid : ℕ) (addr : Addr) (n : ℕ) → (read s pid addr n).state ≡ s
-read_keeps s pid addr n = grind arith
-
-set_same : {A : Type 0} (xs : List A) (i : ℕ) (x : A) → slice_get xs i ≡ Some x → slice_set xs i x ≡ xs
+pub set_same : {A : Type 0} (xs : List A) (i : ℕ) (x : A) → slice_get xs i ≡ Some x → slice_set xs i x ≡ xs
 set_same [] i x there = refl
 set_same (y ∷ xs) zero x there = cc there
 set_same (y ∷ xs) (suc i) x there = ap (λ ys. y ∷ ys) (set_same xs i x there)

@@ -67,7 +67,7 @@ homes_at-where_key buckets h (e ∷ es) =
       | inr f ↦ rw f (one ∙ rw f (omega (arith, rest)))
     ]
 
-not_same : (b : Bool) (x : Option Pte) → cond (not b) x None ≡ cond b None x
+pub not_same : (b : Bool) (x : Option Pte) → cond (not b) x None ≡ cond b None x
 not_same true x = refl
 not_same false x = refl
 

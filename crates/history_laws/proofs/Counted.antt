@@ -12,21 +12,13 @@ use Rattle.cl_types.specs.declared.reply.Value.{Value}
 use Rattle.cl_types.specs.declared.reply.Value.TheVariants as value
 use Rattle.client_model.specs.Cut.{Ending, Replied, GivenUp, first_given_up, first_refusal, joined, only_value, first_answer, combine, answer_bytes, filled, handed_back}
 use Rattle.client_model.specs.Client.{emptied, counted, buffer_of}
+use Rattle.client_model.proofs.Buffers.{refusal_cases}
 
 -- ---- what an answer is
 pub given_cases : (endings : List Ending) → (first_given_up endings ≡ None) ⊎ ((f : ℕ) × (t : ℕ) × (first_given_up endings ≡ Some (answer.TimedOut f t)))
 given_cases [] = inl refl
 given_cases (Replied reply ∷ endings) = given_cases endings
 given_cases (GivenUp f t ∷ endings) = inr (f, t, refl)
-
-refusal_cases : (endings : List Ending) → (first_refusal endings ≡ None) ⊎ ((r : Refusal) × (first_refusal endings ≡ Some (answer.Refused r)))
-refusal_cases [] = inl refl
-refusal_cases (Replied (reply.Refused refusal) ∷ endings) = inr (refusal, refl)
-refusal_cases (Replied (reply.At addr) ∷ endings) = refusal_cases endings
-refusal_cases (Replied (reply.Word word) ∷ endings) = refusal_cases endings
-refusal_cases (Replied (reply.Got bytes) ∷ endings) = refusal_cases endings
-refusal_cases (Replied reply.Nothing ∷ endings) = refusal_cases endings
-refusal_cases (GivenUp f t ∷ endings) = refusal_cases endings
 
 -- what holds of a time-out, of a refusal, and of a done call, holds of its answer
 answer_by : (P : Answer → Type 0) (endings : List Ending) (v : Value) → ((f t : ℕ) → P (answer.TimedOut f t)) → ((r : Refusal) → P (answer.Refused r)) → P (answer.Done v)

@@ -31,7 +31,7 @@ use Rattle.history_laws.specs.Histories.{LawOfOrder}
 use Rattle.trace_laws.specs.Times.{clock}
 use Rattle.trace.specs.Schedules.{IsRisingFrom, AreTyped}
 use Rattle.lemmas.proofs.Lists.{each_append, each_weaker, each_weaker_with, each_always, each_flat_map, each_filter_map_from, none_some}
-use Rattle.client_laws.proofs.Entries.{each_first, each_with_entry, each_with_entries}
+use Rattle.client_laws.proofs.Entries.{each_first, each_with_entries}
 use Rattle.lemmas.proofs.SameParts.{contrary, same_is}
 use Rattle.trace_laws.proofs.Moments.{now_clock}
 use Rattle.client_laws.proofs.Items.{Tells, handling_tells, items_texts}
@@ -44,6 +44,7 @@ use Rattle.trace_laws.proofs.Parts.{request_kept, not_over, NotSent, quiet_not_s
 use Rattle.trace_laws.proofs.OnceKept.{ItemsOnce, item_once, items_once, has_kept_all, unrecorded, part_by_orig, Base, base_later, base_next, base_nothing}
 use Rattle.history_laws.proofs.Settled.{Settled, depends_before, settled_quiet, settled_sent}
 use Rattle.trace_laws.proofs.Induction.{past, of_account}
+use Rattle.trace.proofs.HistoryLemmas.{each_with_entry}
 
 -- ---- what each account keeps
 -- a reply was taken: a changing part has its entry

@@ -24,11 +24,12 @@ use Rattle.client_laws.proofs.Standings.{line_of}
 use Rattle.client_laws.proofs.StateRead.{SendableOf}
 use Rattle.client_laws.proofs.Premises.{call_at_within}
 use Rattle.client_laws.proofs.Fences.{Followed, issued_extended, runs_not, standing_calls}
-use Rattle.client_laws.proofs.ReadyCalls.{print_emptied, goes_waits}
+use Rattle.client_laws.proofs.ReadyCalls.{goes_waits}
 use Rattle.client_laws.proofs.Readiness.{ready_means}
 use Rattle.trace_laws.proofs.PartsOnce.{is_over}
 use Rattle.trace_laws.proofs.Parts.{request_kept, is_over_kept, sent_cases, NotSent, none_sent, sent_of}
 use Rattle.history_laws.proofs.AnswersKept.{all_over_is}
+use Rattle.client_model.proofs.Buffers.{print_emptied}
 
 -- ---- more calls
 slice_get-more : {X : Type 0} (xs ys : List X) (i : ℕ) → i < length xs → slice_get (xs ++ ys) i ≡ slice_get xs i

@@ -8,7 +8,8 @@ use Rattle.cl_types.specs.Spaces.{IsInOnePage}
 use Rattle.kv_offload.specs.declared.layout.TheConstants.{HEADS}
 use Rattle.kv_offload.specs.Layout.{slot_place, link_place}
 use Rattle.kv_offload.specs.Stored.{HasPages}
-use Rattle.lemmas.proofs.Pieces.{length_with, piece_kept_before, piece_kept_behind}
+use Rattle.lemmas.proofs.Pieces.{piece_kept_before, piece_kept_behind}
+use Rattle.cl_types.proofs.PutBytes.{length-with_bytes}
 
 -- ---- places
 -- a slot lies behind the first page
@@ -147,7 +148,7 @@ leaves_put at bytes old within = record {
     | inl before ↦ piece_kept_before at off n bytes old before (omega arith)
     | inr behind ↦ piece_kept_behind at off n bytes old behind (omega arith)
   ];
-  long = length_with at bytes old within;
+  long = length-with_bytes at bytes old within;
 }
 
 pub leaves_then : {from size : ℕ} {old mid new : List ℕ} → Leaves from size old mid → Leaves from size mid new → Leaves from size old new

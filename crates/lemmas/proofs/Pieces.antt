@@ -14,15 +14,6 @@ length_front zero xs h = refl
 length_front (suc n) [] h = absurd (omega arith)
 length_front (suc n) (x ∷ xs) h = let z : length (take n xs) ≡ n = length_front n xs (omega arith) in omega arith
 
-pub length_with : (at : ℕ) (new old : List ℕ) → at + length new ≤ length old → length (with_bytes at new old) ≡ length old
-length_with at new old within =
-    length-append (take at old ++ new) (drop (at + length new) old)
-    ∙ sum (length-append (take at old) new) (length-drop (at + length new) old) (length_front at old (omega arith))
-  where
-    sum : length (take at old ++ new) ≡ length (take at old) + length new → length (drop (at + length new) old) ≡ length old - (at + length new) → length (take at old) ≡ at
-        → length (take at old ++ new) + length (drop (at + length new) old) ≡ length old
-    sum a b c = omega arith
-
 piece_before : (off n : ℕ) (xs ys : List ℕ) → off + n ≤ length xs → bytes_at off n (xs ++ ys) ≡ bytes_at off n xs
 piece_before off n xs ys within =
     let a : length (drop off xs) ≡ length xs - off = length-drop off xs in

@@ -13,6 +13,9 @@ eqb_same n = grind (arith, nat_tests)
 pub eqb_is : (m n : ℕ) → (m == n) ≡ true → m ≡ n
 eqb_is m n e = grind (arith, nat_tests)
 
+pub eqb_turned : (m n : ℕ) → (m == n) ≡ false → (n == m) ≡ false
+eqb_turned m n e = grind (arith, nat_tests)
+
 pub and_left : (a b : Bool) → (a && b) ≡ true → a ≡ true
 and_left true b e = refl
 and_left false b e = e

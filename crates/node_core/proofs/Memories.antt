@@ -21,7 +21,6 @@ use Rattle.data_path.specs.Store.{IsWhole, backed, flat_of, memory_of, page_in, 
 use Rattle.data_path.proofs.Accesses.{page_there}
 use Rattle.data_path.proofs.Framing.{used_is}
 use Rattle.data_path.proofs.Pages.{find-pages_in, sorted_pages}
-use Rattle.flat_model.proofs.BucketLemmas.{first_of_both, second_of_both}
 use Rattle.flat_model.proofs.ExecuteLemmas.{start_fits, start_small}
 use Rattle.flat_model.proofs.LeastLemmas.{fits_within}
 use Rattle.frame_model.specs.Frames.{is_range_start}
@@ -37,25 +36,26 @@ use Rattle.node_core.specs.Keeping.{IsHeldIn, LieIn}
 use Rattle.node_core.specs.Stores.{objects_in, state_in}
 use Rattle.node_core.proofs.ObjectLists.{held_from}
 use Rattle.node_core.proofs.Parted.{alloc-flat, atomic-flat, free-flat, page_at-flat, read-flat, used-flat, write-flat}
+use Rattle.std.proofs.lemmas.Bool.{and_parts}
 
 -- ---- a whole store's memory
 -- what stands below all entries stands below all spans
 below-spans : (k : Place) (es : List (Place × Pte)) → below_all place_cmp k es ≡ true → below_all place_cmp k (spans_in es) ≡ true
 below-spans k [] below = refl
-below-spans k (e ∷ es) below = step (e.1.span == 0) (below-spans k es (second_of_both (is_lt (place_cmp k e.0)) (below_all place_cmp k es) below))
+below-spans k (e ∷ es) below = step (e.1.span == 0) (below-spans k es (and_parts (is_lt (place_cmp k e.0)) (below_all place_cmp k es) below).1)
   where
     step : (b : Bool) → below_all place_cmp k (spans_in es) ≡ true → below_all place_cmp k (if b then spans_in es else (e.0, e.1.span) ∷ spans_in es) ≡ true
     step true rest = rest
-    step false rest = rw (first_of_both (is_lt (place_cmp k e.0)) (below_all place_cmp k es) below) rest
+    step false rest = rw (and_parts (is_lt (place_cmp k e.0)) (below_all place_cmp k es) below).0 rest
 
 sorted-spans : (es : List (Place × Pte)) → is_sorted place_cmp es ≡ true → is_sorted place_cmp (spans_in es) ≡ true
 sorted-spans [] sorted = refl
 sorted-spans (e ∷ es) sorted =
-    step (e.1.span == 0) (sorted-spans es (second_of_both (below_all place_cmp e.0 es) (is_sorted place_cmp es) sorted))
+    step (e.1.span == 0) (sorted-spans es (and_parts (below_all place_cmp e.0 es) (is_sorted place_cmp es) sorted).1)
   where
     step : (b : Bool) → is_sorted place_cmp (spans_in es) ≡ true → is_sorted place_cmp (if b then spans_in es else (e.0, e.1.span) ∷ spans_in es) ≡ true
     step true rest = rest
-    step false rest = rw (below-spans e.0 es (first_of_both (below_all place_cmp e.0 es) (is_sorted place_cmp es) sorted)) rest
+    step false rest = rw (below-spans e.0 es (and_parts (below_all place_cmp e.0 es) (is_sorted place_cmp es) sorted).0) rest
 
 pub memory_in_order : (s : PageStore) → IsWhole s → IsMemory (memory_of s)
 memory_in_order s whole = record {

@@ -5,7 +5,7 @@ use Rattle.std.specs.FinMap.Entries.{find, put, is_sorted, below_all}
 use Rattle.std.specs.Ordering.{eq_by_cmp, is_eq, is_lt}
 use Rattle.std.specs.declared.cmp.Ordering.{Ordering}
 use Rattle.std.specs.declared.cmp.Ordering.TheVariants.{Less, Equal, Greater}
-use Rattle.std.proofs.lemmas.Bool.{cases_Bool}
+use Rattle.std.proofs.lemmas.Bool.{cases_Bool, and_parts}
 use Rattle.std.proofs.lemmas.Bool.Decides.{nat_tests}
 use Rattle.cl_types.specs.declared.call.AtomicOp.{AtomicOp}
 use Rattle.cl_types.specs.declared.call.Perm.{Perm}
@@ -14,7 +14,6 @@ use Rattle.cl_types.specs.declared.reply.Reply.{Reply}
 use Rattle.cl_types.specs.declared.limits.TheConstants.{BUCKET_PAGES, SPACE_PAGES}
 use Rattle.cl_types.specs.Places.{Place, place_cmp, home_of, homes_at, is_process}
 use Rattle.cl_types.proofs.PlaceLemmas.{same_place-self, split_place}
-use Rattle.flat_model.proofs.BucketLemmas.{first_of_both, second_of_both}
 use Rattle.flat_model.specs.Objects.{Object}
 use Rattle.cl_types.specs.Pages.{page_of}
 use Rattle.flat_model.specs.Rows.{keys}
@@ -40,12 +39,12 @@ page_at-flat objects m pid page process = find-where of_process (pid, page) m.ma
 not_below : {V : Type 0} (x : Place) (es : List (Place × V)) (v : V) → below_all place_cmp x es ≡ true → find place_cmp x es ≡ Some v → ⊥
 not_below x [] v below there = absurd cc
 not_below {V} x (e ∷ es) v below there =
-    step (place_cmp x e.0) refl (not_below x es v (second_of_both (is_lt (place_cmp x e.0)) (below_all place_cmp x es) below))
+    step (place_cmp x e.0) refl (not_below x es v (and_parts (is_lt (place_cmp x e.0)) (below_all place_cmp x es) below).1)
   where
     step : (r : Ordering) → place_cmp x e.0 ≡ r → (find place_cmp x es ≡ Some v → ⊥) → ⊥
     step Less is rest = rest (rw (ap is_eq is) at there)
-    step Equal is rest = absurd (let wrong : false ≡ true = sym (ap is_lt is) ∙ first_of_both (is_lt (place_cmp x e.0)) (below_all place_cmp x es) below in cc)
-    step Greater is rest = absurd (let wrong : false ≡ true = sym (ap is_lt is) ∙ first_of_both (is_lt (place_cmp x e.0)) (below_all place_cmp x es) below in cc)
+    step Equal is rest = absurd (let wrong : false ≡ true = sym (ap is_lt is) ∙ (and_parts (is_lt (place_cmp x e.0)) (below_all place_cmp x es) below).0 in cc)
+    step Greater is rest = absurd (let wrong : false ≡ true = sym (ap is_lt is) ∙ (and_parts (is_lt (place_cmp x e.0)) (below_all place_cmp x es) below).0 in cc)
 
 -- the entries of offloads have bytes, one by one
 filled-each : (es : List (Place × Page)) → InOrder es
@@ -53,11 +52,11 @@ filled-each : (es : List (Place × Page)) → InOrder es
     → AllByRecursion (λ e. of_process e.0 ≡ false → is_some e.1.bytes ≡ true) es
 filled-each [] sorted filled = tt
 filled-each (e ∷ es) sorted filled =
-    (λ outside. filled e.0 e.1 outside (rw (same_place-self e.0) refl), filled-each es (second_of_both (below_all place_cmp e.0 es) (is_sorted place_cmp es) sorted) later)
+    (λ outside. filled e.0 e.1 outside (rw (same_place-self e.0) refl), filled-each es (and_parts (below_all place_cmp e.0 es) (is_sorted place_cmp es) sorted).1 later)
   where
     later : (place : Place) (page : Page) → is_process place.0 ≡ false → find place_cmp place es ≡ Some page → is_some page.bytes ≡ true
     later place page outside there = elim (split_place place e.0) [
-      | inl one ↦ absurd (not_below e.0 es page (first_of_both (below_all place_cmp e.0 es) (is_sorted place_cmp es) sorted) (ap (λ k. find place_cmp k es) (sym one.0) ∙ there))
+      | inl one ↦ absurd (not_below e.0 es page (and_parts (below_all place_cmp e.0 es) (is_sorted place_cmp es) sorted).0 (ap (λ k. find place_cmp k es) (sym one.0) ∙ there))
       | inr two ↦ filled place page outside (rw two.1 there)
     ]
 

@@ -32,8 +32,10 @@ use Rattle.flat_model.specs.State.{FlatState, Page, page_at, bytes_of, is_mapped
 use Rattle.flat_model.specs.Step.{Outcome, refused, with_fresh, is_range, is_among, free_if, may_write, may_change, is_out_of_pages, if_allowed, on_found, if_pages_last, on_bytes, puts, write, atomic, given, on_object, offload, MayAlloc, MayReply, alloc_after, state_after}
 use Rattle.node_laws.specs.Locks.{TakesLock, is_lock, may_release, is_refused, releases, LawOfLocks}
 use Rattle.lemmas.proofs.SameParts.{and_left, and_right, eqb_is, eqb_same}
-use Rattle.lemmas.proofs.Pieces.{length_with, piece_kept_before, piece_kept_behind, piece_put}
+use Rattle.lemmas.proofs.Pieces.{piece_kept_before, piece_kept_behind, piece_put}
 use Rattle.lemmas.proofs.Lists.{none_some}
+use Rattle.cl_types.proofs.PutBytes.{length-with_bytes}
+use Rattle.std.proofs.lemmas.Bool.{ltb-false as not_lt}
 
 abbrev pub Map : Type 0
 Map = List (Place × Page)
@@ -157,7 +159,7 @@ whole_step s pid (request.Write addr bytes) reply range whole =
     let ends : leb (offset_of addr + length bytes) PAGE_BYTES ≡ true = and_right (is_good_address addr && leb 1 (length bytes) && leb (length bytes) PART_BYTES) (leb (offset_of addr + length bytes) PAGE_BYTES) piece in
     let len : length (bytes_of page) ≡ PAGE_BYTES = whole.pages (pid, page_of addr) page is in
     let low : offset_of addr + length bytes ≤ PAGE_BYTES = grind (arith, nat_tests) in
-    whole_put s.map (pid, page_of addr) (record page { bytes = Some (with_bytes (offset_of addr) bytes (bytes_of page)) }) whole (length_with (offset_of addr) bytes (bytes_of page) (omega arith) ∙ len))
+    whole_put s.map (pid, page_of addr) (record page { bytes = Some (with_bytes (offset_of addr) bytes (bytes_of page)) }) whole (length-with_bytes (offset_of addr) bytes (bytes_of page) (omega arith) ∙ len))
 whole_step s pid (request.Atomic addr op) reply range whole =
     bytes_by (λ o. Whole o.state.map) s pid addr may_change (λ page. puts s pid addr page (to_le_bytes w64 (word_after op (word_at (offset_of addr) (bytes_of page)))) (Word (word_at (offset_of addr) (bytes_of page)))) (λ r. whole)
     (λ page is.
@@ -165,7 +167,7 @@ whole_step s pid (request.Atomic addr op) reply range whole =
     let len : length (bytes_of page) ≡ PAGE_BYTES = whole.pages (pid, page_of addr) page is in
     let eight : length (to_le_bytes w64 (word_after op (word_at (offset_of addr) (bytes_of page)))) ≡ 8 = refl in
     whole_put s.map (pid, page_of addr) (record page { bytes = Some (with_bytes (offset_of addr) (to_le_bytes w64 (word_after op (word_at (offset_of addr) (bytes_of page)))) (bytes_of page)) }) whole
-    (length_with (offset_of addr) (to_le_bytes w64 (word_after op (word_at (offset_of addr) (bytes_of page)))) (bytes_of page) (omega arith) ∙ len))
+    (length-with_bytes (offset_of addr) (to_le_bytes w64 (word_after op (word_at (offset_of addr) (bytes_of page)))) (bytes_of page) (omega arith) ∙ len))
 whole_step s pid (request.Offload number op out bytes) reply range whole = go (slice_get s.objects number) where
   by : (g : Given) → Whole (given s number out g).state.map
   by (Err refusal) = whole
@@ -211,9 +213,6 @@ word_apart addr word new old same within len (inr behind) =
 and_cases : (a b : Bool) → (a && b) ≡ false → (a ≡ false) ⊎ (b ≡ false)
 and_cases true b h = inr h
 and_cases false b h = inl refl
-
-not_lt : (m n : ℕ) → nat_lt m n ≡ false → n ≤ m
-not_lt m n h = grind (arith, nat_tests)
 
 eqb_sym : (m n : ℕ) → (m == n) ≡ true → (n == m) ≡ true
 eqb_sym m n h = subst (λ z. (z == m) ≡ true) (eqb_is m n h) (eqb_same m)

@@ -1,5 +1,5 @@
 -- A call of a host, and the Offload of the flat machine.
-use Rattle.std.proofs.Common.{◌≡◌, ℕ, zero, suc, List, [], ◌∷◌, Some, Result, Ok, Err, IfErr, slice_get, slice_set, refl, sym, ap, ◌∙◌}
+use Rattle.std.proofs.Common.{◌≡◌, ℕ, List, Some, Result, Ok, Err, IfErr, slice_get, slice_set, refl, sym, ap, ◌∙◌}
 use Rattle.cl_types.specs.declared.config.OffloadConfig.{OffloadConfig}
 use Rattle.cl_types.specs.declared.reply.Refusal.{Refusal}
 use Rattle.cl_types.specs.declared.reply.Reply.TheVariants.{Refused}
@@ -9,12 +9,7 @@ use Rattle.flat_model.specs.Step.{given, on_object}
 use Rattle.kv_offload.specs.Stored.{answered, given_by}
 use Rattle.offload_host.specs.Held.{object_of}
 use Rattle.offload_host.specs.Laws.{CallsAreOffloads, replied, with_object}
-
--- an item that stands is put there again
-set_again : {A : Type 0} (xs : List A) (i : ℕ) (x : A) → slice_get xs i ≡ Some x → slice_set xs i x ≡ xs
-set_again [] i x there = refl
-set_again (y ∷ xs) zero x there = let same : y ≡ x = cc there in ap (λ z. z ∷ xs) (sym same)
-set_again (y ∷ xs) (suc i) x there = ap (λ ys. y ∷ ys) (set_again xs i x there)
+use Rattle.flat_model.proofs.RunLemmas.{set_same}
 
 -- what a call gave, as the outcome of the machine
 given_outcome : (s : FlatState) (number most : ℕ) (offloaded : OffloadConfig) (old new : List ℕ) (result : Result ℕ Refusal) (out : List ℕ)
@@ -23,7 +18,7 @@ given_outcome : (s : FlatState) (number most : ℕ) (offloaded : OffloadConfig) 
 given_outcome s number most offloaded old new (Ok len) out there kept = refl
 given_outcome s number most offloaded old new (Err refusal) out there kept =
     let again : slice_set s.objects number (object_of offloaded new) ≡ s.objects =
-    ap (λ (contents : List ℕ). slice_set s.objects number (object_of offloaded contents)) kept ∙ set_again s.objects number (object_of offloaded old) there in
+    ap (λ (contents : List ℕ). slice_set s.objects number (object_of offloaded contents)) kept ∙ set_same s.objects number (object_of offloaded old) there in
     ap (λ (objects : List Object). record { reply = Refused refusal; state = record s { objects = objects } }) (sym again)
 
 pub call_is_offload : CallsAreOffloads

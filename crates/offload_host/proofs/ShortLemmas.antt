@@ -1,6 +1,6 @@
 -- The answers of operations that change an object are short.
 use Rattle.std.proofs.Common.{◌≡◌, ◌≤◌, ◌==◌, ◌%◌, ◌&&◌, not, ℕ, Bool, true, false, List, [], length, take, Result, Ok, Err, IfOk, is_some, leb, if◌then◌else◌, refl, sym, ap, subst, ◌∙◌, arith}
-use Rattle.std.proofs.lemmas.Bool.{eqb-true}
+use Rattle.std.proofs.lemmas.Bool.{eqb-true, and_parts}
 use Rattle.std.proofs.lemmas.List.{length-take-le}
 use Rattle.std.specs.FinMap.Entries.{find, put, where_key}
 use Rattle.std.specs.Int.{to_be_bytes, w32}
@@ -29,14 +29,10 @@ silent_delete records pairs key =
     silent_if (is_some (find key_cmp key pairs))
     (Ok ([], KvObject records (where_key key_cmp (λ other. not (eq_by_cmp key_cmp key other)) pairs))) (Err NoKey) (λ _. refl) (λ _. tt)
 
-and_left : (a b : Bool) → (a && b) ≡ true → a ≡ true
-and_left true b both = refl
-and_left false b both = both
-
 -- an odd operation isn't one of these
 is_odd : (op wanted : ℕ) (form : Bool) → op % 2 ≡ 1 → wanted % 2 ≡ 0 → (op == wanted && form) ≡ true → ⊥
 is_odd op wanted form odd even both =
-    let same : op ≡ wanted = eqb-true op wanted (and_left (op == wanted) form both) in
+    let same : op ≡ wanted = eqb-true op wanted (and_parts (op == wanted) form both).0 in
     let other : op % 2 ≡ 0 = ap (λ n. n % 2) same ∙ even in
     cc (sym odd ∙ other)
 

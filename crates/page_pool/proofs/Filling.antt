@@ -14,7 +14,7 @@ pub range_push : (a n : ℕ) → range_with_len a (n + 1) ≡ range_with_len a n
 range_push a n = sym (map-id _) ∙ map-range_with_len_more (λ x. x) a n (a + n) refl ∙ ap (λ (xs : List ℕ). xs ++ (a + n) ∷ []) (map-id _)
 
 -- a range in two pieces
-range_append : (a m n : ℕ) → range_with_len a m ++ range_with_len (a + m) n ≡ range_with_len a (m + n)
+pub range_append : (a m n : ℕ) → range_with_len a m ++ range_with_len (a + m) n ≡ range_with_len a (m + n)
 range_append a zero n = let e : a + 0 ≡ a = omega arith in let f : 0 + n ≡ n = omega arith in rw (e, f) refl
 range_append a (suc m) n =
     let e : a + suc m ≡ a + 1 + m = omega arith in

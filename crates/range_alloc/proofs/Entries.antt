@@ -9,7 +9,7 @@ use Rattle.cl_types.specs.Places.{Place, place_cmp, home_of}
 use Rattle.cl_types.proofs.PlaceLemmas.{place_total, place_exact, same_place, same_place-self, split_place}
 use Rattle.hash_buckets.specs.PageMap.{PageMap, IsValid, entry_of, load, with_entry, without_entry}
 use Rattle.hash_buckets.proofs.Loads.{homes_at-without_page, one_at}
-use Rattle.hash_buckets.proofs.Tables.{find-without_page}
+use Rattle.hash_buckets.proofs.Tables.{find-without_page, not_same}
 use Rattle.flat_model.proofs.PutLemmas.{T_of}
 use Rattle.flat_model.specs.State.{places_of}
 use Rattle.flat_model.specs.Step.{is_among}
@@ -23,15 +23,11 @@ entry-with table place pte q = find-put place_cmp place_total q place pte table.
 pub entry-without : (table : PageMap) (place q : Place) → entry_of (without_entry table place) q ≡ cond (same_place q place) None (entry_of table q)
 entry-without table place q = find-without_page table.entries place q
 
-not_among : (b : Bool) (x : Option Pte) → cond (not b) x None ≡ cond b None x
-not_among true x = refl
-not_among false x = refl
-
 -- ---- a range
 pub entry-without_range : (table : PageMap) (space start n : ℕ) (q : Place) → entry_of (without_range table space start n) q ≡ cond (is_among space start n q) None (entry_of table q)
 entry-without_range table space start n q =
     find-where_key place_cmp (λ place. not (is_among space start n place)) q (λ x equal. ap (λ y. not (is_among space start n y)) (sym (place_exact q x equal))) table.entries
-    ∙ not_among (is_among space start n q) (entry_of table q)
+    ∙ not_same (is_among space start n q) (entry_of table q)
 
 -- the span and the frame of an entry
 abbrev pub span_in : Option Pte → ℕ
@@ -67,7 +63,7 @@ pub entry-with_range : (table : PageMap) (space start n : ℕ) (perm : Perm) (q 
 entry-with_range table space start n perm q = find-with_pages perm n space start n table.entries q
 
 -- ---- tables in order
-sorted-with_pages : (perm : Perm) (span : ℕ) (places : List Place) (es : List (Place × Pte)) → T (is_sorted place_cmp es) → T (is_sorted place_cmp (with_pages perm span places es))
+pub sorted-with_pages : (perm : Perm) (span : ℕ) (places : List Place) (es : List (Place × Pte)) → T (is_sorted place_cmp es) → T (is_sorted place_cmp (with_pages perm span places es))
 sorted-with_pages perm span [] es sorted = sorted
 sorted-with_pages perm span (place ∷ places) es sorted = is_sorted-put place_cmp place_total place (new_page perm span) _ (sorted-with_pages perm 0 places es sorted)
 

@@ -9,15 +9,12 @@ use Rattle.texts.specs.Text.{Text}
 use Rattle.texts.specs.Words.{address_in, address_of_digits, hex_value, is_digit, is_hex_digit, is_plain, number_in, value_in}
 use Rattle.schedule_text.specs.Digits.{spelled}
 use Rattle.schedule_text.proofs.DigitLemmas.{checked, spelled_is}
+use Rattle.std.proofs.Math.Bool.{and-false as no_and}
 
 -- a number in its range
 abbrev pub ranged : (low high : ℕ) → Option ℕ → Option ℕ
 ranged low high None = None
 ranged low high (Some n) = cond (leb low n && leb n high) (Some n) None
-
-no_and : (b : Bool) → (b && false) ≡ false
-no_and true = refl
-no_and false = refl
 
 ranged_checked : (low high n limit : ℕ) (good fits : Bool) → high < limit → nat_lt n limit ≡ fits
     → cond (good && leb low n && leb n high) (Some n) None ≡ ranged low high (cond (good && fits) (Some n) None)

@@ -4,6 +4,7 @@ use Rattle.std.specs.List.{concat, list_all, onto_first, slice_split}
 use Rattle.std.proofs.lemmas.Bool.Decides.{nat_tests}
 use Rattle.texts.specs.Text.{Text}
 use Rattle.texts.specs.Words.{is_digit, is_plain, number_in, times_in}
+use Rattle.std.proofs.Math.Bool.{and-false as no_and}
 
 -- parts of a text at its stars: it is one, or there are two and more, and it isn't all digits
 abbrev IsOne : Text → Type 0
@@ -15,10 +16,6 @@ record AreMore (text : Text) : Type 0 where
   others : List Text
   parts : slice_split (λ b. b == 42) text ≡ first ∷ second ∷ others
   no_number : list_all is_digit text ≡ false
-
-no_and : (b : Bool) → (b && false) ≡ false
-no_and true = refl
-no_and false = refl
 
 star_is_no_digit : (b : ℕ) → (b == 42) ≡ true → is_digit b ≡ false
 star_is_no_digit b e = grind (arith, nat_tests)

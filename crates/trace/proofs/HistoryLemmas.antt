@@ -12,7 +12,7 @@ use Rattle.trace.specs.Properties.{IsInOrder}
 use Rattle.trace.specs.HistoryLaws.{HistoriesAreInOrder}
 
 -- the later entry doesn't stand before the earlier one
-abbrev Follows : Entry → Entry → Type 0
+abbrev pub Follows : Entry → Entry → Type 0
 Follows e later = is_before e.line e.position later ≡ false
 
 -- of an entry that stands before a place, one at that place is no predecessor
@@ -20,21 +20,21 @@ not_back : (e x : Entry) → is_before e.line e.position x ≡ true → Follows 
 not_back e x before = grind (arith, nat_tests)
 
 -- what follows an entry follows all that the entry follows
-follows_on : (e x y : Entry) → Follows e x → Follows x y → Follows e y
+pub follows_on : (e x y : Entry) → Follows e x → Follows x y → Follows e y
 follows_on e x y first second = grind (arith, nat_tests)
 
 each_weaker : (P Q : Entry → Type 0) → ((e : Entry) → P e → Q e) → (es : List Entry) → Each P es → Each Q es
 each_weaker P Q weaker [] each = tt
 each_weaker P Q weaker (e ∷ es) each = (weaker e each.0, each_weaker P Q weaker es each.1)
 
-each_with_entry : (P : Entry → Type 0) (e : Entry) (h : List Entry) → P e → Each P h → Each P (with_entry e h)
+pub each_with_entry : (P : Entry → Type 0) (e : Entry) (h : List Entry) → P e → Each P h → Each P (with_entry e h)
 each_with_entry P e [] it each = (it, tt)
 each_with_entry P e (x ∷ h) it each = step (is_before e.line e.position x) (each_with_entry P e h it each.1) where
   step : (b : Bool) → Each P (with_entry e h) → Each P (elim b [ true ↦ x ∷ with_entry e h | false ↦ e ∷ x ∷ h ])
   step true rest = (each.0, rest)
   step false rest = (it, each)
 
-order_with_entry : (e : Entry) (h : List Entry) → IsInOrder h → IsInOrder (with_entry e h)
+pub order_with_entry : (e : Entry) (h : List Entry) → IsInOrder h → IsInOrder (with_entry e h)
 order_with_entry e [] order = (tt, tt)
 order_with_entry e (x ∷ h) order = step (is_before e.line e.position x) refl (order_with_entry e h order.1) where
   step : (b : Bool) → is_before e.line e.position x ≡ b → IsInOrder (with_entry e h) → IsInOrder (elim b [ true ↦ x ∷ with_entry e h | false ↦ e ∷ x ∷ h ])

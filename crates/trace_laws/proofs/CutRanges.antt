@@ -1,5 +1,5 @@
 -- An issued call is cut into requests in their ranges.
-use Rattle.std.proofs.Common.{◌≡◌, ℕ, zero, suc, ◌+◌, ◌-◌, ◌*◌, ◌/◌, ◌%◌, ◌<◌, ◌≤◌, List, [], ◌∷◌, refl, Bool, true, false, cond, arith, Some, None, length, drop}
+use Rattle.std.proofs.Common.{◌≡◌, ℕ, zero, suc, ◌+◌, ◌-◌, ◌*◌, ◌/◌, ◌%◌, ◌<◌, ◌≤◌, List, ◌∷◌, refl, Bool, true, false, arith, None, length, drop}
 use Rattle.std.specs.Prelude.{leb, nat_lt, ◌==◌, ◌&&◌, ◌^◌, not, replicate}
 use Rattle.std.specs.List.{AllByRecursion as Each, list_all, concat}
 use Rattle.std.proofs.lemmas.Bool.Decides.{nat_tests}
@@ -16,34 +16,16 @@ use Rattle.cl_types.specs.declared.request.Request.TheVariants as request
 use Rattle.cl_types.specs.declared.schedule.CallText.{CallText}
 use Rattle.cl_types.specs.declared.schedule.CallText.TheVariants as text
 use Rattle.cl_types.specs.declared.schedule.Written.{Written}
-use Rattle.client_model.specs.Cut.{cut, pieces, pieces_within, piece_len}
+use Rattle.client_model.specs.Cut.{cut, pieces}
 use Rattle.client_model.specs.Client.{ClientState, held}
 use Rattle.cl_types.specs.Written.{call_of, expanded}
-use Rattle.frame_model.specs.Faults.{first_fault}
 use Rattle.client_model.specs.Issue.{issue_fault, call_faults}
 use Rattle.cl_types.specs.Ranges.{are_bytes, has_words, is_typed_call}
 use Rattle.lemmas.proofs.Lists.{each_map, each_weaker}
 use Rattle.trace_laws.proofs.Ran.{InRange}
 use Rattle.lemmas.proofs.SameParts.{and_left, and_right}
 use Rattle.lemmas.proofs.Passes.{append_passes, both, drop_passes, take_passes}
-
--- ---- faults
-no_faults : (fs : List (Bool × IssueFault)) → first_fault fs ≡ None → Each (λ (f : Bool × IssueFault). f.0 ≡ false) fs
-no_faults [] e = tt
-no_faults (f ∷ fs) e = go f.0 refl (no_faults fs) e
-  where
-    go : (b : Bool) → f.0 ≡ b → (first_fault fs ≡ None → Each (λ (f : Bool × IssueFault). f.0 ≡ false) fs) → cond b (Some f.1) (first_fault fs) ≡ None → Each (λ (f : Bool × IssueFault). f.0 ≡ false) (f ∷ fs)
-    go true t rec e = grind arith
-    go false t rec e = (t, rec e)
-
--- what the faults of bytes at an address leave
-record GoodBytes (addr n most len : ℕ) : Type 0 where
-  some : 1 ≤ n
-  at_most : n ≤ most
-  ends : addr + len ≤ ADDRESS_END
-
-good_bytes : (addr n most len : ℕ) → (n == 0) ≡ false → nat_lt most n ≡ false → nat_lt ADDRESS_END (addr + len) ≡ false → GoodBytes addr n most len
-good_bytes addr n most len x y z = record { some = grind (arith, nat_tests); at_most = grind (arith, nat_tests); ends = grind (arith, nat_tests) }
+use Rattle.client_model.proofs.Pieces.{GoodBytes, GoodPiece, good_bytes, no_faults, pieces_good}
 
 -- ---- bytes
 repeat_passes : (test : ℕ → Bool) (n : ℕ) (xs : List ℕ) → list_all test xs ≡ true → list_all test (concat (replicate n xs)) ≡ true
@@ -52,34 +34,6 @@ repeat_passes test (suc n) xs h = append_passes test xs (concat (replicate n xs)
 
 expanded_bytes : (w : Written) → are_bytes w.bytes ≡ true → are_bytes (expanded w) ≡ true
 expanded_bytes w h = repeat_passes (λ b. nat_lt b 256) w.times w.bytes h
-
--- ---- pieces
-record GoodPiece (at left : ℕ) (p : ℕ × ℕ) : Type 0 where
-  some : 1 ≤ p.1
-  most : p.1 ≤ PART_BYTES
-  page : p.0 % PAGE_BYTES + p.1 ≤ PAGE_BYTES
-  from : at ≤ p.0
-  to : p.0 + p.1 ≤ at + left
-
-piece_good : (at left : ℕ) → (left == 0) ≡ false → GoodPiece at left (at, piece_len at left)
-piece_good at left e =
-    let n : 1 ≤ left = grind (arith, nat_tests) in
-    record { some = omega arith; most = omega arith; page = omega arith; from = omega arith; to = omega arith }
-
-pieces_good : (most at left : ℕ) → Each (GoodPiece at left) (pieces_within most at left)
-pieces_good zero at left = tt
-pieces_good (suc most) at left = go (left == 0) refl (pieces_good most (at + piece_len at left) (left - piece_len at left))
-  where
-    go : (b : Bool) → (left == 0) ≡ b → Each (GoodPiece (at + piece_len at left) (left - piece_len at left)) (pieces_within most (at + piece_len at left) (left - piece_len at left)) →
-        Each (GoodPiece at left) (elim b [ true ↦ [] | false ↦ (at, piece_len at left) ∷ pieces_within most (at + piece_len at left) (left - piece_len at left) ])
-    go true e h = tt
-    go false e h = (
-      piece_good at left e,
-      each_weaker _ _ (λ (p : ℕ × ℕ) (g : GoodPiece (at + piece_len at left) (left - piece_len at left) p).
-          let n : 1 ≤ left = grind (arith, nat_tests) in
-          let from : at + piece_len at left ≤ p.0 = g.from in let to : p.0 + p.1 ≤ at + piece_len at left + (left - piece_len at left) = g.to in
-          record { some = g.some; most = g.most; page = g.page; from = omega arith; to = omega arith }) _ h,
-    )
 
 -- ---- each kind of call
 free_in_range : (addr : Addr) (pages : ℕ) → GoodBytes addr.0 pages RANGE_PAGES (PAGE_BYTES * pages) → not (addr.0 % PAGE_BYTES == 0) ≡ false → InRange (request.Free addr pages)

@@ -13,17 +13,8 @@ use Rattle.std.specs.List.{AllByRecursion as Each}
 use Rattle.trace.specs.Properties.{IsInOrder}
 use Rattle.flat_model.proofs.RunLemmas.{reading_keeps, run_append}
 use Rattle.lemmas.proofs.Lists.{each_weaker}
-use Rattle.client_laws.proofs.Entries.{each_with_entry}
 use Rattle.trace_laws.proofs.Reading.{memory_with_entry}
-use Rattle.trace_laws.proofs.Places.{not_back, not_before_chain}
-
-pub sorted_with_entry : (e : Entry) (h : List Entry) → IsInOrder h → IsInOrder (with_entry e h)
-sorted_with_entry e [] s = (tt, tt)
-sorted_with_entry e (x ∷ h) s = go (is_before e.line e.position x) refl (sorted_with_entry e h s.1)
-  where
-    go : (b : Bool) → is_before e.line e.position x ≡ b → IsInOrder (with_entry e h) → IsInOrder (elim b [ true ↦ x ∷ with_entry e h | false ↦ e ∷ x ∷ h ])
-    go true t k = (each_with_entry _ e h (not_back e x t) s.0, k)
-    go false t k = ((t, each_weaker _ _ (λ y z. not_before_chain e x y t z) h s.0), s)
+use Rattle.trace.proofs.HistoryLemmas.{follows_on}
 
 -- where all stand before it, it joins them at the end
 pub with_last : (e : Entry) (h : List Entry) → Each (λ (x : Entry). is_before e.line e.position x ≡ true) h → with_entry e h ≡ h ++ e ∷ []
@@ -82,7 +73,7 @@ run_insert s e (x ∷ h) c o r i m = go (is_before e.line e.position x) refl m (
         IsRunFrom s (elim b [ true ↦ x ∷ with_entry e h | false ↦ e ∷ x ∷ h ])
     go true t m rec = (r.0, rec m)
     go false t m rec =
-        let none : filter (is_before e.line e.position) h ≡ [] = none_before (is_before e.line e.position) h (each_weaker _ _ (λ y z. not_before_chain e x y t z) h o.0) in (
+        let none : filter (is_before e.line e.position) h ≡ [] = none_before (is_before e.line e.position) h (each_weaker _ _ (λ y z. follows_on e x y t z) h o.0) in (
           record { in_range = i; may = subst (λ z. MayReply (after s z) e.pid e.request e.reply) none m; after = refl },
           subst (λ z. IsRunFrom z (x ∷ h)) (sym (reading_keeps s e.pid e.request e.reply c)) r,
         )

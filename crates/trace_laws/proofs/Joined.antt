@@ -13,10 +13,10 @@ use Rattle.std.specs.List.{AllByRecursion as Each}
 use Rattle.trace.specs.Properties.{IsInOrder, ShowsMemory}
 use Rattle.trace_laws.proofs.Ran.{InRange, LookOf, Ran}
 use Rattle.lemmas.proofs.Lists.{each_append, each_weaker, each_weaker_with}
-use Rattle.client_laws.proofs.Entries.{each_with_entry}
 use Rattle.trace_laws.proofs.Places.{less, before_next, at_next, not_after, less_line}
-use Rattle.trace_laws.proofs.Insert.{sorted_with_entry, with_last, all_before, run_push, run_insert, memory_kept}
+use Rattle.trace_laws.proofs.Insert.{with_last, all_before, run_push, run_insert, memory_kept}
 use Rattle.node_laws.proofs.Replies.{may_outcome}
+use Rattle.trace.proofs.HistoryLemmas.{each_with_entry, order_with_entry}
 
 -- a history after another, with entries put in at place (l, q)
 pub record Grown (config : Config) (h new : List Entry) (l q p : ℕ) : Type 0 where
@@ -38,7 +38,7 @@ look_kept config h new l q e same k = record {
 taken : (config : Config) (h : List Entry) (l q : ℕ) (e : Entry) → IsInOrder h → Each (λ (e : Entry). is_before l q e ≡ true) h → IsRun config.node h → LookOf config h l q e →
     Grown config h (with_entry e h) l q q
 taken config h l q e s b r k = record {
-  sorted = sorted_with_entry e h s;
+  sorted = order_with_entry e h s;
   before = each_with_entry _ e h k.before b;
   run = run_insert (opening config.node) e h k.reading s r k.in_range
       (subst (λ z. MayReply (memory_at config h e.line e.position) e.pid e.request z) (sym k.reply) (may_outcome (memory_at config h e.line e.position) e.pid e.request k.in_range));
@@ -61,7 +61,7 @@ executed config h l q e s b r j k i is =
     let before : Each (λ (x : Entry). is_before e.line e.position x ≡ true) h = subst (λ z. Each (λ (x : Entry). is_before z e.position x ≡ true) h) (sym j) (subst (λ z. Each (λ (x : Entry). is_before l z x ≡ true) h) (sym k) b) in
     let whole : memory_at config h l q ≡ after (opening config.node) h = ap (after (opening config.node)) (all_before (is_before l q) h b) in
     record {
-      sorted = sorted_with_entry e h s;
+      sorted = order_with_entry e h s;
       before = each_with_entry _ e h (at_next l q e j k) (each_weaker _ _ (λ x. before_next l q x) h b);
       run = subst (IsRunFrom (opening config.node)) (sym (with_last e h before))
           (run_push (opening config.node) e h r i

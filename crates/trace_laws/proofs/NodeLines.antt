@@ -40,7 +40,7 @@ use Rattle.trace_laws.proofs.Places.{line_of_before}
 use Rattle.trace_laws.proofs.Moments.{now_kept}
 use Rattle.client_laws.proofs.Standings.{sent_kept}
 use Rattle.trace_laws.proofs.TimesKept.{frame_at_each}
-use Rattle.trace_laws.proofs.OnceKept.{Base, base_later, base_of_account}
+use Rattle.trace_laws.proofs.OnceKept.{Base, base_later, base_of_account, entry_owned}
 use Rattle.trace_laws.proofs.Induction.{past}
 use Rattle.trace_laws.proofs.WindowKept.{one_account}
 use Rattle.client_laws.proofs.Items.{Tells, handling_tells}
@@ -264,14 +264,10 @@ item_left config a l k q i b own =
     (handling_tells (latest config.node.retry (recorded a.history l q)) config.node.retry a l i)
     ∙ ap (λ h. (handles latest (node_at config a) (now a l) i.item h).node) (sym (same_handling config a l q i b own))
 
--- the entry of an item is its part's own
-own_entry : (config : Config) (a : Account) (l q : ℕ) (i : Carried) (reply : Reply) → ItemOwned config a i → EntryOwned config a (entry_of l q i reply)
-own_entry config a l q i reply own = record { orig = i.item.head.orig; owned = record { moment = own.moment; sent = own.sent; request = own.request; process = own.process } }
-
 handled_entries : (config : Config) (a b : Account) (l k q : ℕ) (i : Carried) (s : FlatState) → ItemOwned config a i → (h : Handling) → Each (EntryOwned config a) (handled s b l k q i h).entries
 handled_entries config a b l k q i s own (Repeats reply) = tt
 handled_entries config a b l k q i s own (RefusesForNow oldest) = tt
-handled_entries config a b l k q i s own Executes = (own_entry config a l q i (item_outcome s i.item).reply own, tt)
+handled_entries config a b l k q i s own Executes = (entry_owned config a l q i (item_outcome s i.item).reply own, tt)
 handled_entries config a b l k q i s own Looks = tt
 
 -- what joins an account leaves what its lines say
@@ -362,7 +358,7 @@ items_made config l k (i ∷ is) a b q own =
     made : (s : FlatState) (h : Handling) → Each (IsMade config a l) (handled s b l k q i h).entries
     made s (Repeats reply) = tt
     made s (RefusesForNow oldest) = tt
-    made s Executes = (record { owned = own_entry config a l q i (item_outcome s i.item).reply own.0; line = omega arith }, tt)
+    made s Executes = (record { owned = entry_owned config a l q i (item_outcome s i.item).reply own.0; line = omega arith }, tt)
     made s Looks = tt
 
 -- a look's entry was made earlier

@@ -27,7 +27,7 @@ use Rattle.trace.specs.Events.{record_of, entry_of, handled, item_handling, on_p
 use Rattle.client_laws.specs.Flights.{FlightOf}
 use Rattle.trace.specs.Schedules.{IsRisingFrom, AreTyped}
 use Rattle.lemmas.proofs.Lists.{each_append, each_weaker, each_weaker_with, none_some}
-use Rattle.client_laws.proofs.Entries.{each_with_entry, each_with_entries, first_of-append_none}
+use Rattle.client_laws.proofs.Entries.{each_with_entries, first_of-append_none}
 use Rattle.lemmas.proofs.SameParts.{contrary, same_refl, same_is}
 use Rattle.client_laws.proofs.Items.{Tells, handling_tells, items_texts}
 use Rattle.client_laws.proofs.Standings.{texts_extended}
@@ -41,6 +41,7 @@ use Rattle.trace_laws.proofs.TimesKept.{frame_at_each, sent_is_read, Times, time
 use Rattle.trace_laws.proofs.PartsOnce.{is_over, ItemOwned, EntryOwned, IsEntry, HasEntry, ReplyStands, Ids, PartsOnce}
 use Rattle.trace_laws.proofs.Parts.{request_kept, is_over_kept, owned_kept, not_over, NotSent, quiet_not_sent, ids_quiet, ids_sent}
 use Rattle.trace_laws.proofs.Induction.{past, of_account}
+use Rattle.trace.proofs.HistoryLemmas.{each_with_entry}
 
 -- ---- histories
 pub has_kept : (e : Entry) (h : List Entry) (c : ClientNo) (p : Part) (reply : Reply) → HasEntry h c p reply → HasEntry (with_entry e h) c p reply
@@ -141,7 +142,7 @@ pub record ItemsOnce (config : Config) (a : Account) (h : List Entry) (e : Effec
   pub changing : Each (λ (x : Entry). is_changing x.request ≡ true) e.entries
   pub distinct : AreDistinct (with_entries e.entries h)
 
-entry_owned : (config : Config) (a : Account) (l q : ℕ) (i : Carried) (reply : Reply) → ItemOwned config a i → EntryOwned config a (entry_of l q i reply)
+pub entry_owned : (config : Config) (a : Account) (l q : ℕ) (i : Carried) (reply : Reply) → ItemOwned config a i → EntryOwned config a (entry_of l q i reply)
 entry_owned config a l q i reply o = record { orig = i.item.head.orig; owned = record { moment = o.moment; sent = o.sent; request = o.request; process = o.process } }
 
 handled_once : (config : Config) (a b : Account) (l k q : ℕ) (i : Carried) (retry : ℕ) → ItemOwned config a i → Each (EntryOwned config a) b.history → AreDistinct b.history

@@ -9,24 +9,12 @@ use Rattle.trace.specs.Account.{is_before}
 abbrev pub less : ℕ → ℕ → ℕ → ℕ → Bool
 less a b c d = nat_lt a c || a == c && nat_lt b d
 
-asym : (a b c d : ℕ) → less a b c d ≡ true → less c d a b ≡ false
-asym a b c d h = grind (arith, nat_tests)
-
 trans : (a b c d e f : ℕ) → less a b c d ≡ true → less e f c d ≡ false → less e f a b ≡ false
 trans a b c d e f h k = grind (arith, nat_tests)
-
-trans_not : (a b c d e f : ℕ) → less c d a b ≡ false → less e f c d ≡ false → less e f a b ≡ false
-trans_not a b c d e f h k = grind (arith, nat_tests)
-
-pub not_back : (e x : Entry) → is_before e.line e.position x ≡ true → is_before x.line x.position e ≡ false
-not_back e x h = asym x.line x.position e.line e.position h
 
 -- e stands before the place and x doesn't
 pub not_before_earlier : (l q : ℕ) (e x : Entry) → is_before l q e ≡ true → is_before l q x ≡ false → is_before e.line e.position x ≡ false
 not_before_earlier l q e x h k = trans e.line e.position l q x.line x.position h k
-
-pub not_before_chain : (e x y : Entry) → is_before e.line e.position x ≡ false → is_before x.line x.position y ≡ false → is_before e.line e.position y ≡ false
-not_before_chain e x y h k = trans_not e.line e.position x.line x.position y.line y.position h k
 
 pub before_next : (l q : ℕ) (e : Entry) → is_before l q e ≡ true → is_before l (q + 1) e ≡ true
 before_next l q e h = grind (arith, nat_tests)

@@ -444,7 +444,7 @@ push : (l n : ℕ) (e : Event) (es : List (ℕ × Event)) → l ≤ n → IsRisi
 push l n e [] le rising low = (le, tt)
 push l n e (x ∷ es) le rising low = (rising.0, push (x.0 + 1) n e es (let lt : x.0 < n = low.0 in omega arith) rising.1 low.1)
 
-later : (n : ℕ) (es : List (ℕ × Event)) → Each (λ (e : ℕ × Event). e.0 < n) es → Each (λ (e : ℕ × Event). e.0 < n + 1) es
+pub later : (n : ℕ) (es : List (ℕ × Event)) → Each (λ (e : ℕ × Event). e.0 < n) es → Each (λ (e : ℕ × Event). e.0 < n + 1) es
 later n es low = each_weaker (λ (e : ℕ × Event). e.0 < n) (λ (e : ℕ × Event). e.0 < n + 1) (λ (e : ℕ × Event) (lt : e.0 < n). omega arith) es low
 
 any_more : {X : Type 0} (test : X → Bool) (xs ys : List X) → list_any test xs ≡ true → list_any test (xs ++ ys) ≡ true

@@ -3,7 +3,6 @@ use Rattle.std.proofs.Common.{◌≡◌, ℕ, zero, suc, ◌<◌, ◌≤◌, Lis
 use Rattle.std.specs.Prelude.{Result, Ok, Err, IfErr, MatchOption, find, ◌-◌, option_map, slice_get, unwrap_or, ◌==◌, ◌||◌}
 use Rattle.std.specs.List.{AllByRecursion as Each, list_any}
 use Rattle.std.specs.Map.{keys_of, lookup, values_of}
-use Rattle.std.proofs.lemmas.Bool.Decides.{nat_tests}
 use Rattle.std.proofs.Math.Seq.{drop-nil}
 use Rattle.cl_types.specs.declared.config.Config.{Config}
 use Rattle.cl_types.specs.declared.numbers.ClientNo.{ClientNo}
@@ -28,6 +27,7 @@ use Rattle.world.specs.declared.whole.Whole.{Whole}
 use Rattle.cl_types.specs.declared.schedule.Event.{Event}
 use Rattle.world.proofs.Entries.{step_grows}
 use Rattle.world.proofs.Sound.{sound_later, step_sound}
+use Rattle.lemmas.proofs.SameParts.{eqb_same as same_self}
 
 abbrev Given : Type 0
 Given = ClientNo × ℕ
@@ -37,9 +37,6 @@ numbers given = map (λ (g : Given). g.0.0) given
 
 abbrev own_client : Given → ClientState
 own_client g = new_client g.0 g.1
-
-same_self : (n : ℕ) → (n == n) ≡ true
-same_self n = grind (arith, nat_tests)
 
 first_of : (b c : Bool) → (b || c) ≡ false → b ≡ false
 first_of true c h = absurd cc

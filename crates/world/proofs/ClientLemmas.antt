@@ -1,15 +1,16 @@
 -- A client is found by its number, and changed in its place.
-use Rattle.std.proofs.Common.{◌≡◌, ℕ, zero, suc, Bool, true, false, cond, List, [], ◌∷◌, Some, None, refl, sym, ap, ◌∙◌, subst, set, arith}
+use Rattle.std.proofs.Common.{◌≡◌, ℕ, zero, suc, Bool, true, false, cond, List, [], ◌∷◌, Some, None, refl, sym, ap, ◌∙◌, subst, set}
 use Rattle.std.specs.Prelude.{Option, IfSome, is_some, option_and_then, slice_get, ◌==◌, ◌||◌}
 use Rattle.std.specs.List.{list_any}
 use Rattle.std.specs.Map.{keys_of, lookup, values_of}
-use Rattle.std.proofs.lemmas.Bool.Decides.{nat_tests}
 use Rattle.cl_types.specs.declared.numbers.ClientNo.{ClientNo}
 use Rattle.client_model.specs.Apart.{AreApart}
 use Rattle.client_model.specs.Client.{ClientState}
 use Rattle.indexmap.specs.IndexMap.{set_value_at}
 use Rattle.world.specs.Fields.{numbers_of}
 use Rattle.world.specs.Worlds.{client_in, with_client}
+use Rattle.std.proofs.lemmas.Bool.{eq-eqb as same_number}
+use Rattle.lemmas.proofs.SameParts.{eqb_turned as turned}
 
 -- ---- clients under their numbers
 -- a look-up by the number finds the client of the number
@@ -46,12 +47,6 @@ keyed_after (e ∷ entries) (suc at) s new there same keyed =
     let own : e.0 ≡ e.1.client.0 = cc in
     let rest : keys_of entries ≡ numbers_of (values_of entries) = cc in
     λ i. own i ∷ keyed_after entries at s new there same rest i
-
-same_number : (m n : ℕ) → m ≡ n → (m == n) ≡ true
-same_number m n h = grind (arith, nat_tests)
-
-turned : (m n : ℕ) → (m == n) ≡ false → (n == m) ≡ false
-turned m n h = grind (arith, nat_tests)
 
 -- no client of the rest has the number
 none_changed : (new : ClientState) (clients : List ClientState) → list_any (λ m. m == new.client.0) (numbers_of clients) ≡ false → with_client new clients ≡ clients

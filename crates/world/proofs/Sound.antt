@@ -33,8 +33,8 @@ use Rattle.world.specs.declared.note.Note.{Note}
 use Rattle.world.specs.Fields.{IsSound, IsWithin, numbers_of}
 use Rattle.world.specs.Running.{IsFair}
 use Rattle.world.specs.Worlds.{World, Stepped, arrived, call_judged, client_heard, client_in, client_stands, deliver, delivered, entered, entry_of, node_judged, node_said, note_on, polled, sends_frame, shows, step, taken_entry, with_client, with_found, with_next}
-use Rattle.trace_laws.proofs.Insert.{sorted_with_entry}
 use Rattle.lemmas.proofs.Lists.{each_weaker}
+use Rattle.trace.proofs.HistoryLemmas.{order_with_entry}
 
 -- ---- clients
 within_later : (n m t u : ℕ) → n ≤ m → t ≤ u → (s : ClientState) → IsWithin n t s → IsWithin m u s
@@ -64,13 +64,13 @@ numbers_kept new (s ∷ clients) = λ i. number_kept new s (same_client new.clie
 
 -- ---- the history
 entered_order : (h : How) (e : Entry) (es : List Entry) → IsInOrder es → IsInOrder (entered h e es)
-entered_order how.Executed e es order = sorted_with_entry e es order
+entered_order how.Executed e es order = order_with_entry e es order
 entered_order how.Repeated e es order = order
 entered_order how.Looked e es order = order
 
 taken_order : (line : ℕ) (bytes : List ℕ) (part : Part) (o : Option Request) (es : List Entry) → IsInOrder es → IsInOrder (taken_entry line bytes part o es)
 taken_order line bytes part None es order = order
-taken_order line bytes part (Some r) es order = sorted_with_entry _ es order
+taken_order line bytes part (Some r) es order = order_with_entry _ es order
 
 -- ---- worlds
 pub sound_later : (l m : ℕ) (w : World) → l ≤ m → IsSound l w → IsSound m w

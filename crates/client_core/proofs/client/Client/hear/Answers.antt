@@ -4,9 +4,10 @@ use Rattle.std.specs.Result.{result_err}
 use Rattle.cl_types.specs.Requests.{request_of, reply_of}
 use Rattle.client_model.specs.Client.{ClientState}
 use Rattle.client_core.specs.declared.answers.Heard.TheVariants as heard
-use Rattle.client_core.proofs.Hearings.{IsHeard, awaited_under, fit_request, is_bad, is_late, is_other, is_taken, is_under, is_unfit, heard_by, other_no, same_no, takes_for, taken_step}
+use Rattle.client_core.proofs.Hearings.{IsHeard, awaited_under, fit_request, is_bad, is_late, is_other, is_taken, is_under, is_unfit, heard_by, other_no, takes_for, taken_step}
 use Rattle.client_core.proofs.Sounds.{going}
 use Rattle.client_core.proofs.client.Client.hear.Goals as goal
+use Rattle.std.proofs.lemmas.Bool.{eq-eqb as same_no}
 
 pub returns-in-Err : goal.returns-in-Err
 returns-in-Err c =
