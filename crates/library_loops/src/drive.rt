@@ -31,8 +31,13 @@ pub fn drive(rt: &HostRuntime, client: &mut Client, now: u64, link: &mut Link) -
     while let Some((no, answer, _call)) = client.done() {
         let number = no.0;
         match answer {
-            Answer::Done(Value::At(addr)) => println!(rt; "{now}: call {number} got the page at {}", addr.0)?,
-            Answer::Done(Value::Word(word)) => println!(rt; "{now}: call {number} found the word {word}")?,
+            Answer::Done(Value::At(addr)) => println!(rt;
+                "{now}: call {number} got the page at {}",
+                addr.0
+            )?,
+            Answer::Done(Value::Word(word)) => println!(rt;
+                "{now}: call {number} found the word {word}"
+            )?,
             Answer::Done(_) => println!(rt; "{now}: call {number} is done")?,
             Answer::Refused(_) => println!(rt; "{now}: call {number} was refused")?,
             Answer::TimedOut { .. } => println!(rt; "{now}: call {number} timed out")?,

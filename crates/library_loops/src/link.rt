@@ -20,7 +20,12 @@ impl Link {
 }
 
 /// Puts the first `len` bytes of the buffer on a list.
-pub fn send(alloc: Global, list: &mut Vec<Vec<u8>>, buffer: &[u8], len: usize) -> Result<(), AllocError> {
+pub fn send(
+    alloc: Global,
+    list: &mut Vec<Vec<u8>>,
+    buffer: &[u8],
+    len: usize,
+) -> Result<(), AllocError> {
     let mut datagram = Vec::new(alloc);
     datagram.extend_from_slice(&buffer[..len.min(buffer.len())])?;
     list.push(datagram)?;

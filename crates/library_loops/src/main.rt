@@ -58,12 +58,31 @@ fn play<A: Ledger, B: Ledger>(rt: &HostRuntime, reads: Blank, takes: Blank) -> i
         return Ok(());
     };
     let mut link = Link::create(rt.alloc());
-    ask(&mut client, Call::Alloc { pages: 1, perm: Perm::ReadWrite });
+    ask(
+        &mut client,
+        Call::Alloc {
+            pages: 1,
+            perm: Perm::ReadWrite,
+        },
+    );
     ask(&mut client, Call::Fence);
-    ask(&mut client, Call::Atomic { addr: Addr(0x1000), op: AtomicOp::Add { n: 5 } });
+    ask(
+        &mut client,
+        Call::Atomic {
+            addr: Addr(0x1000),
+            op: AtomicOp::Add { n: 5 },
+        },
+    );
     for turn in 0..4 {
         drive(rt, &mut client, 100 * turn, &mut link)?;
-        serve(rt.alloc(), &mut node, 100 * turn, &mut link, &mut reads, &mut takes)?;
+        serve(
+            rt.alloc(),
+            &mut node,
+            100 * turn,
+            &mut link,
+            &mut reads,
+            &mut takes,
+        )?;
         if turn == 0 {
             link.to_client.clear();
         }
