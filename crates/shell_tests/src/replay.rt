@@ -88,7 +88,10 @@ fn the_first_path_is_printed_and_its_world_is_left(rt: HostRuntime) -> Result<()
         unended: 0,
         entries: 3,
     };
-    assert_eq!(rt; first_path(rt.alloc())?, (0, true, Some((1, 2, 3, summary))));
+    assert_eq!(rt;
+        first_path(rt.alloc())?,
+        (0, true, Some((1, 2, 3, summary)))
+    );
     Ok(())
 }
 
