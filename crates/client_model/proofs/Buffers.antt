@@ -1,5 +1,5 @@
 -- What the bytes of a call's buffer don't change, and what came of a call that failed.
-use Rattle.std.proofs.Common.{◌≡◌, ℕ, List, [], ◌∷◌, ◌⊎◌, inl, inr, Some, None, length, map, refl, ap}
+use Rattle.std.proofs.Common.{◌≡◌, ℕ, List, [], ◌∷◌, ◌⊎◌, inl, inr, Some, None, length, map, refl, ap, true, false}
 use Rattle.std.proofs.lemmas.List.{length-replicate}
 use Rattle.cl_types.specs.declared.call.Call.{Call}
 use Rattle.cl_types.specs.declared.call.Call.TheVariants as call
