@@ -53,7 +53,7 @@ fn notes(retry: &mut Retry, orig: u64) -> bool
     true
 }
 
-/// Whether a buffer takes 65,536 replies whose ids rise, and then finds each of them 20 times.
+/// Whether a buffer takes 65,536 replies whose ids rise, and then finds each of them 200 times.
 fn finds_each(alloc: Global) -> Result<bool, NoMemory> {
     let mut retry = Retry::create(alloc, 65_536)?;
     for orig in 1..=65_536 {
@@ -61,7 +61,7 @@ fn finds_each(alloc: Global) -> Result<bool, NoMemory> {
             return Ok(false);
         }
     }
-    for _ in 0..20 {
+    for _ in 0..200 {
         for orig in 1..=65_536 {
             if retry.look(CLIENT, Kind::Write, orig).is_none() {
                 return Ok(false);
