@@ -7,3 +7,4 @@ pub mod CallLemmas
 pub mod LineLemmas
 pub mod ScriptLemmas
 pub mod ReadingLemmas
+pub mod StopLemmas
