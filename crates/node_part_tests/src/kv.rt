@@ -19,7 +19,7 @@ type Told = (
     [Result<(), Refusal>; 2],
 );
 
-fn told(alloc: Global) -> Result<Told, NoMemory> {
+fn answers(alloc: Global) -> Result<Told, NoMemory> {
     let mut space = MemorySpace::create(alloc, 2)?;
     KV.init(&mut space);
     let _ = KV.put(&mut space, b"a", b"v");
@@ -40,6 +40,6 @@ fn a_store_of_two_records_takes_two_keys(rt: HostRuntime) -> Result<(), Fail> {
         Ok((1, b'w')),
         [Ok(()), Err(Refusal::NoKey)],
     );
-    assert_eq!(rt; told(rt.alloc())?, want);
+    assert_eq!(rt; answers(rt.alloc())?, want);
     Ok(())
 }

@@ -64,7 +64,11 @@ struct Told {
     again: Result<(), Refusal>,
 }
 
-fn told<A: Ledger, B: Ledger>(alloc: Global, reads: Blank, takes: Blank) -> Result<Told, OpenFault>
+fn answers<A: Ledger, B: Ledger>(
+    alloc: Global,
+    reads: Blank,
+    takes: Blank,
+) -> Result<Told, OpenFault>
     requires reads_name { reads.name ≡ A.name }
     requires reads_parts { reads.parts ≡ A.parts }
     requires reads_some { 0 < reads.parts }
@@ -101,7 +105,7 @@ fn told<A: Ledger, B: Ledger>(alloc: Global, reads: Blank, takes: Blank) -> Resu
 fn a_read_gives_what_was_written_and_each_refusal_has_its_cause(
     rt: HostRuntime,
 ) -> Result<(), Fail> {
-    let told = told::<Brand, Brand>(rt.alloc(), Blank::new(1), Blank::new(1));
+    let told = answers::<Brand, Brand>(rt.alloc(), Blank::new(1), Blank::new(1));
     let want = Told {
         start: Ok(Addr(0x1000)),
         refused: [Err(Refusal::NoPermission), Err(Refusal::NoMapping)],

@@ -59,7 +59,7 @@ fn run_on(alloc: Global, words: &[&str], input: &[u8], failing: Failing) -> Resu
 /// to.
 type Shown = (u32, u32, u32, Summary);
 
-fn shown(left: &Left) -> Option<Shown> {
+fn show(left: &Left) -> Option<Shown> {
     let Left::Replayed(world) = left else {
         return None;
     };
@@ -75,7 +75,7 @@ fn shown(left: &Left) -> Option<Shown> {
 fn first_path(alloc: Global) -> Result<(u8, bool, Option<Shown>), NoMemory> {
     let ran = run_on(alloc, &["replay"], PATH, (&[], &[]))?;
     let is_written = ran.written.as_slice() == TRANSCRIPT;
-    Ok((ran.status, is_written, shown(&ran.left)))
+    Ok((ran.status, is_written, show(&ran.left)))
 }
 
 #[test]

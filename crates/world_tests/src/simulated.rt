@@ -62,7 +62,7 @@ fn execute_an_alloc(alloc: Global, world: &mut World) -> Result<(), NoMemory>
 /// issued.
 type Told = (Summary, usize, u32, Option<u32>);
 
-fn told(alloc: Global) -> Result<Told, OpenFault> {
+fn come_to(alloc: Global) -> Result<Told, OpenFault> {
     let mut world = opened(alloc)?;
     execute_an_alloc(alloc, &mut world)?;
     let issued = if world.has_client(CLIENT) {
@@ -88,6 +88,6 @@ fn a_world_comes_to_a_call_that_is_done(rt: HostRuntime) -> Result<(), Fail> {
         unended: 0,
         entries: 1,
     };
-    assert_eq!(rt; told(rt.alloc()), Ok((summary, 1, 1, Some(1))));
+    assert_eq!(rt; come_to(rt.alloc()), Ok((summary, 1, 1, Some(1))));
     Ok(())
 }
