@@ -6,8 +6,8 @@ use Rattle.std.proofs.lemmas.Slice.{drop-append-drop}
 use Rattle.cl_types.specs.Bytes.{with_bytes}
 use Rattle.cl_types.specs.declared.reply.Reply.TheVariants as reply
 use Rattle.client_model.specs.Cut.{Ending, Replied}
-use Rattle.call_cut.specs.declared.outcome.Outcome.{Outcome}
-use Rattle.call_cut.specs.declared.outcome.Outcome.TheVariants as outcome
+use Rattle.call_cut.specs.declared.outcome.PartOutcome.{PartOutcome}
+use Rattle.call_cut.specs.declared.outcome.PartOutcome.TheVariants as outcome
 use Rattle.call_cut.specs.Fills.{before}
 use Rattle.call_cut.specs.Came.{ending_in, came_in}
 
@@ -22,7 +22,7 @@ with_bytes_behind n at bytes old =
     ∙ append_assoc (take n old) (take at (drop n old) ++ bytes) (drop (at + length bytes) (drop n old))
 
 -- an outcome without bytes, put among the others
-pub came_set : (buf ns : List ℕ) (os : List Outcome) (i : ℕ) (o : Outcome) (e : Option Ending) → ((bytes : List ℕ) → ending_in bytes o ≡ e)
+pub came_set : (buf ns : List ℕ) (os : List PartOutcome) (i : ℕ) (o : PartOutcome) (e : Option Ending) → ((bytes : List ℕ) → ending_in bytes o ≡ e)
     → came_in buf ns (set os i o) ≡ set (came_in buf ns os) i e
 came_set buf [] [] i o e is = refl
 came_set buf [] (x ∷ os) zero o e is = refl
@@ -32,7 +32,7 @@ came_set buf (n ∷ ns) (x ∷ os) zero o e is = ap (λ (y : Option Ending). y �
 came_set buf (n ∷ ns) (x ∷ os) (suc i) o e is = ap (λ (ys : List (Option Ending)). ending_in (take n buf) x ∷ ys) (came_set (drop n buf) ns os i o e is)
 
 -- an outcome with bytes, put among the others, and its bytes at their place
-pub came_put : (buf ns : List ℕ) (os : List Outcome) (i n : ℕ) (bytes : List ℕ) → slice_get ns i ≡ Some n → length bytes ≤ n → before i ns + length bytes ≤ length buf
+pub came_put : (buf ns : List ℕ) (os : List PartOutcome) (i n : ℕ) (bytes : List ℕ) → slice_get ns i ≡ Some n → length bytes ≤ n → before i ns + length bytes ≤ length buf
     → came_in (with_bytes (before i ns) bytes buf) ns (set os i (outcome.Got (length bytes))) ≡ set (came_in buf ns os) i (Some (Replied (reply.Got bytes)))
 came_put buf [] os i n bytes at short fits = absurd cc
 came_put buf (m ∷ ns) [] i n bytes at short fits = refl

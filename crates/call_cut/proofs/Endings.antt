@@ -17,8 +17,8 @@ use Rattle.cl_types.specs.declared.reply.Value.{Value}
 use Rattle.cl_types.specs.declared.reply.Value.TheVariants as value
 use Rattle.client_model.specs.Client.{buffer_of, emptied, every}
 use Rattle.client_model.specs.Cut.{Ending, Replied, GivenUp, combine, cut, done_value, filled, first_answer, first_given_up, first_refusal, handed_back, joined, only_value, pieces}
-use Rattle.call_cut.specs.declared.outcome.Outcome.{Outcome}
-use Rattle.call_cut.specs.declared.outcome.Outcome.TheVariants as outcome
+use Rattle.call_cut.specs.declared.outcome.PartOutcome.{PartOutcome}
+use Rattle.call_cut.specs.declared.outcome.PartOutcome.TheVariants as outcome
 use Rattle.call_cut.specs.Fills.{fills}
 use Rattle.call_cut.specs.Came.{came, came_in, ending_in}
 use Rattle.call_cut.specs.Taking.{Gathers, is_outcome_of, are_outcomes_of}
@@ -28,49 +28,49 @@ use Rattle.call_cut.proofs.Takings.{length_fills, length_outcomes}
 use Rattle.client_model.proofs.Buffers.{refusal_cases}
 
 -- a walk over outcomes finds what a look at them all does
-pub found_here : (among : List Outcome → Option Answer) (os : List Outcome) (i : ℕ) (d o : Outcome) → i < length os → get_or os i d ≡ o
+pub found_here : (among : List PartOutcome → Option Answer) (os : List PartOutcome) (i : ℕ) (d o : PartOutcome) → i < length os → get_or os i d ≡ o
     → among (drop i os) ≡ among os → among (o ∷ drop (i + 1) os) ≡ among os
 found_here among os i d o within is so_far = sym (ap (λ x. among (x ∷ drop (i + 1) os)) is) ∙ sym (at_drop_more among os i d within) ∙ so_far
 
 -- ---- the endings, where something came of each part
 -- what came of a part; a stand-in where nothing has
-abbrev ending : List ℕ → Outcome → Ending
+abbrev ending : List ℕ → PartOutcome → Ending
 ending bytes o = unwrap_or (ending_in bytes o) (Replied reply.Nothing)
 
-abbrev endings_in : List ℕ → List ℕ → List Outcome → List Ending
+abbrev endings_in : List ℕ → List ℕ → List PartOutcome → List Ending
 endings_in buf (n ∷ ns) (o ∷ os) = ending (take n buf) o ∷ endings_in (drop n buf) ns os
 endings_in buf ns os = []
 
 -- nothing has come of some part
-every_waiting : (buf ns : List ℕ) (os : List Outcome) → length os ≤ length ns → list_any is_waiting os ≡ true → every (came_in buf ns os) ≡ None
+every_waiting : (buf ns : List ℕ) (os : List PartOutcome) → length os ≤ length ns → list_any is_waiting os ≡ true → every (came_in buf ns os) ≡ None
 every_waiting buf ns [] few h = absurd cc
 every_waiting buf [] (o ∷ os) few h = absurd (omega arith)
 every_waiting buf (n ∷ ns) (outcome.Waiting ∷ os) few h = refl
 every_waiting buf (n ∷ ns) (o ∷ os) few h = rw (every_waiting (drop n buf) ns os (omega arith) h) refl
 
 -- something has come of each
-every_over : (buf ns : List ℕ) (os : List Outcome) → length os ≤ length ns → list_any is_waiting os ≡ false → every (came_in buf ns os) ≡ Some (endings_in buf ns os)
+every_over : (buf ns : List ℕ) (os : List PartOutcome) → length os ≤ length ns → list_any is_waiting os ≡ false → every (came_in buf ns os) ≡ Some (endings_in buf ns os)
 every_over buf [] [] few h = refl
 every_over buf (n ∷ ns) [] few h = refl
 every_over buf [] (o ∷ os) few h = absurd (omega arith)
 every_over buf (n ∷ ns) (outcome.Waiting ∷ os) few h = absurd cc
 every_over buf (n ∷ ns) (o ∷ os) few h = rw (every_over (drop n buf) ns os (omega arith) h) refl
 
-given_up_is : (buf ns : List ℕ) (os : List Outcome) → length os ≤ length ns → first_given_up (endings_in buf ns os) ≡ given_up_among os
+given_up_is : (buf ns : List ℕ) (os : List PartOutcome) → length os ≤ length ns → first_given_up (endings_in buf ns os) ≡ given_up_among os
 given_up_is buf [] [] few = refl
 given_up_is buf (n ∷ ns) [] few = refl
 given_up_is buf [] (o ∷ os) few = absurd (omega arith)
 given_up_is buf (n ∷ ns) (outcome.GivenUp first_sent now ∷ os) few = refl
 given_up_is buf (n ∷ ns) (o ∷ os) few = given_up_is (drop n buf) ns os (omega arith)
 
-refusal_is : (buf ns : List ℕ) (os : List Outcome) → length os ≤ length ns → first_refusal (endings_in buf ns os) ≡ refusal_among os
+refusal_is : (buf ns : List ℕ) (os : List PartOutcome) → length os ≤ length ns → first_refusal (endings_in buf ns os) ≡ refusal_among os
 refusal_is buf [] [] few = refl
 refusal_is buf (n ∷ ns) [] few = refl
 refusal_is buf [] (o ∷ os) few = absurd (omega arith)
 refusal_is buf (n ∷ ns) (outcome.Refused refusal ∷ os) few = refl
 refusal_is buf (n ∷ ns) (o ∷ os) few = refusal_is (drop n buf) ns os (omega arith)
 
-only_value_is : (buf ns : List ℕ) (os : List Outcome) → length os ≤ length ns → only_value (endings_in buf ns os) ≡ only_value_of os
+only_value_is : (buf ns : List ℕ) (os : List PartOutcome) → length os ≤ length ns → only_value (endings_in buf ns os) ≡ only_value_of os
 only_value_is buf [] [] few = refl
 only_value_is buf (n ∷ ns) [] few = refl
 only_value_is buf [] (o ∷ os) few = absurd (omega arith)
@@ -115,7 +115,7 @@ handed_back_failed call.Fence es a is = refl
 
 -- ---- a call that is done
 -- nothing failed
-pub record AllDone (os : List Outcome) : Type 0 where
+pub record AllDone (os : List PartOutcome) : Type 0 where
   pub over : list_any is_waiting os ≡ false
   pub kept : given_up_among os ≡ None
   pub granted : refusal_among os ≡ None
@@ -124,7 +124,7 @@ pub record AllDone (os : List Outcome) : Type 0 where
 abbrev reads : List (ℕ × ℕ) → List Request
 reads ps = map (λ p. request.Read (record { 0 = p.0 }) p.1) ps
 
-all_got : (ps : List (ℕ × ℕ)) (os : List Outcome) → are_outcomes_of (reads ps) os ≡ true → AllDone os → os ≡ map (λ p. outcome.Got p.1) ps
+all_got : (ps : List (ℕ × ℕ)) (os : List PartOutcome) → are_outcomes_of (reads ps) os ≡ true → AllDone os → os ≡ map (λ p. outcome.Got p.1) ps
 all_got [] [] fit d = refl
 all_got [] (o ∷ os) fit d = absurd cc
 all_got (p ∷ ps) [] fit d = absurd cc
@@ -149,7 +149,7 @@ joined_all (p ∷ ps) buf =
     ∙ sym (take-add p.1 (total (map (λ p. p.1) ps)) buf)
 
 -- the only part of an Offload then has its answer
-got_alone : (number op : ℕ) (sent buf : List ℕ) (os : List Outcome) → are_outcomes_of (cut (call.Offload number op sent buf)) os ≡ true → AllDone os
+got_alone : (number op : ℕ) (sent buf : List ℕ) (os : List PartOutcome) → are_outcomes_of (cut (call.Offload number op sent buf)) os ≡ true → AllDone os
     → (len : ℕ) × (os ≡ outcome.Got len ∷ []) × (len ≤ length buf)
 got_alone number op sent buf [] fit d = absurd cc
 got_alone number op sent buf (o ∷ (x ∷ os)) fit d = absurd (let h = (and_parts (is_outcome_of (request.Offload number op (length buf) sent) o) _ fit).1 in cc)
@@ -198,13 +198,13 @@ module _ (es : List Ending) (kept : first_given_up es ≡ None) (granted : first
             ∙ ap (λ n. take len buf ++ zeros (length buf - n)) size));
       }
 
-  done_plain : (k : Call) (os : List Outcome) → emptied k ≡ k → handed_back k es ≡ k → done_value k es ≡ only_value_of os → EndsBy k k es (answer.Done (only_value_of os))
+  done_plain : (k : Call) (os : List PartOutcome) → emptied k ≡ k → handed_back k es ≡ k → done_value k es ≡ only_value_of os → EndsBy k k es (answer.Done (only_value_of os))
   done_plain k os plain same is = record {
     answer_is = ap answer.Done (sym is) ∙ sym (combine_done k) ∙ ap (λ c. combine c es) (sym plain);
     call_is = sym same ∙ ap (λ c. handed_back c es) (sym plain);
   }
 
-module _ (os : List Outcome) (k : Call) (g : Gathers os k) where
+module _ (os : List PartOutcome) (k : Call) (g : Gathers os k) where
   -- there are no more outcomes than places for their bytes
   as_many : length os ≤ length (fills k)
   as_many = omega (arith, length_fills k, length_outcomes (cut k) os g.fit)
@@ -232,7 +232,7 @@ module _ (os : List Outcome) (k : Call) (g : Gathers os k) where
       done_plain all (given_up_is (buffer_of k) (fills k) os as_many ∙ d.kept) (refusal_is (buffer_of k) (fills k) os as_many ∙ d.granted) k os plain same (is ∙ only_value_is (buffer_of k) (fills k) os as_many)
 
 -- the call ends by outcomes of which none failed
-finishes : (os : List Outcome) (k : Call) (g : Gathers os k) → AllDone os → EndsBy k (with_rest_cleared os k) (all os k g) (answer.Done (value_of os k))
+finishes : (os : List PartOutcome) (k : Call) (g : Gathers os k) → AllDone os → EndsBy k (with_rest_cleared os k) (all os k g) (answer.Done (value_of os k))
 finishes os (call.Read addr buf) g d =
     let k : Call = call.Read addr buf in
     let ps : List (ℕ × ℕ) = pieces addr.0 (length buf) in
@@ -257,17 +257,17 @@ none_of (Some x) b h = absurd cc
 
 -- ---- what `answer` ensures
 -- of a call to which this has come, the answer and the call as it is handed back
-pub record Answered (os : List Outcome) (k k' : Call) (result : Option Answer) : Type 0 where
+pub record Answered (os : List PartOutcome) (k k' : Call) (result : Option Answer) : Type 0 where
   pub answer_is : result ≡ option_map (combine (emptied k)) (every (came os k))
   pub call_is : IfSome (every (came os k)) (λ endings. k' ≡ handed_back (emptied k) endings)
 
-ended : {os : List Outcome} {k k' : Call} {es : List Ending} {a : Answer} → every (came os k) ≡ Some es → EndsBy k k' es a → Answered os k k' (Some a)
+ended : {os : List PartOutcome} {k k' : Call} {es : List Ending} {a : Answer} → every (came os k) ≡ Some es → EndsBy k k' es a → Answered os k k' (Some a)
 ended {os} {k} {k'} e by = record {
   answer_is = ap Some by.answer_is ∙ ap (option_map (combine (emptied k))) (sym e);
   call_is = subst (λ o. IfSome o (λ endings. k' ≡ handed_back (emptied k) endings)) (sym e) by.call_is;
 }
 
-answered_waiting : (os : List Outcome) (k : Call) → Gathers os k → list_any is_waiting os ≡ true → Answered os k k None
+answered_waiting : (os : List PartOutcome) (k : Call) → Gathers os k → list_any is_waiting os ≡ true → Answered os k k None
 answered_waiting os k g h =
     let none = waits os k g h in
     record {
@@ -275,16 +275,16 @@ answered_waiting os k g h =
       call_is = subst (λ o. IfSome o (λ endings. k ≡ handed_back (emptied k) endings)) (sym none) tt;
     }
 
-answered_failed : (os : List Outcome) (k : Call) → Gathers os k → list_any is_waiting os ≡ false → (a : Answer) → failure_among os ≡ Some a → Answered os k (emptied k) (Some a)
+answered_failed : (os : List PartOutcome) (k : Call) → Gathers os k → list_any is_waiting os ≡ false → (a : Answer) → failure_among os ≡ Some a → Answered os k (emptied k) (Some a)
 answered_failed os k g h a is = ended (over os k g h) (fails os k g a is)
 
-answered_done : (os : List Outcome) (k : Call) → Gathers os k → list_any is_waiting os ≡ false → failure_among os ≡ None → Answered os k (with_rest_cleared os k) (Some (answer.Done (value_of os k)))
+answered_done : (os : List PartOutcome) (k : Call) → Gathers os k → list_any is_waiting os ≡ false → failure_among os ≡ None → Answered os k (with_rest_cleared os k) (Some (answer.Done (value_of os k)))
 answered_done os k g h is =
     let none = none_of (given_up_among os) (refusal_among os) is in
     ended (over os k g h) (finishes os k g (record { over = h; kept = none.0; granted = none.1 }))
 
 -- the outcomes w are those of the gatherer, as far as they count
-module _ (w : List Outcome) {os : List Outcome} {k : Call} (e : w ≡ os) (g : Gathers os k) {waiting : Bool} (looked : waiting ≡ list_any is_waiting w) where
+module _ (w : List PartOutcome) {os : List PartOutcome} {k : Call} (e : w ≡ os) (g : Gathers os k) {waiting : Bool} (looked : waiting ≡ list_any is_waiting w) where
   gathered : Gathers w k
   gathered = subst (λ os. Gathers os k) (sym e) g
 

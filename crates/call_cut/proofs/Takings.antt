@@ -19,8 +19,8 @@ use Rattle.client_model.specs.Client.{emptied}
 use Rattle.client_model.specs.Cut.{Replied, GivenUp, cut, pieces}
 use Rattle.frame_model.specs.Faults.{first_fault}
 use Rattle.client_model.specs.Issue.{call_faults, bytes_faults, as_far_as_told}
-use Rattle.call_cut.specs.declared.outcome.Outcome.{Outcome}
-use Rattle.call_cut.specs.declared.outcome.Outcome.TheVariants as outcome
+use Rattle.call_cut.specs.declared.outcome.PartOutcome.{PartOutcome}
+use Rattle.call_cut.specs.declared.outcome.PartOutcome.TheVariants as outcome
 use Rattle.call_cut.specs.Fills.{fills, before}
 use Rattle.call_cut.specs.Came.{came, came_in, ending_in}
 use Rattle.call_cut.specs.Taking.{TakesFor, Gathers, is_reply_to, is_outcome_of, are_outcomes_of, outcome_of, call_with}
@@ -41,7 +41,7 @@ outcome_fits (request.Offload number op out bytes) (reply.Got answer) h = h
 outcome_fits q r h = absurd cc
 
 -- one outcome more that fits its part
-outcomes_set : (qs : List Request) (os : List Outcome) (i : ℕ) (q : Request) (o : Outcome) → are_outcomes_of qs os ≡ true → slice_get qs i ≡ Some q → is_outcome_of q o ≡ true
+outcomes_set : (qs : List Request) (os : List PartOutcome) (i : ℕ) (q : Request) (o : PartOutcome) → are_outcomes_of qs os ≡ true → slice_get qs i ≡ Some q → is_outcome_of q o ≡ true
     → are_outcomes_of qs (set os i o) ≡ true
 outcomes_set [] os i q o fit at h = absurd cc
 outcomes_set (p ∷ qs) [] i q o fit at h = absurd cc
@@ -53,7 +53,7 @@ outcomes_set (p ∷ qs) (x ∷ os) (suc i) q o fit at h =
     and_from _ _ both.0 (outcomes_set qs os i q o both.1 at h)
 
 -- an outcome may be of any part where it is one of being given up
-outcomes_set_any : (qs : List Request) (os : List Outcome) (i first_sent now : ℕ) → are_outcomes_of qs os ≡ true → are_outcomes_of qs (set os i (outcome.GivenUp first_sent now)) ≡ true
+outcomes_set_any : (qs : List Request) (os : List PartOutcome) (i first_sent now : ℕ) → are_outcomes_of qs os ≡ true → are_outcomes_of qs (set os i (outcome.GivenUp first_sent now)) ≡ true
 outcomes_set_any [] [] i first_sent now fit = refl
 outcomes_set_any [] (x ∷ os) i first_sent now fit = absurd cc
 outcomes_set_any (p ∷ qs) [] i first_sent now fit = absurd cc
@@ -70,14 +70,14 @@ outcomes_waiting (q ∷ qs) zero e = absurd (omega arith)
 outcomes_waiting (q ∷ qs) (suc n) e = outcomes_waiting qs n (omega arith)
 
 -- there are as many outcomes as parts
-pub length_outcomes : (qs : List Request) (os : List Outcome) → are_outcomes_of qs os ≡ true → length qs ≡ length os
+pub length_outcomes : (qs : List Request) (os : List PartOutcome) → are_outcomes_of qs os ≡ true → length qs ≡ length os
 length_outcomes [] [] fit = refl
 length_outcomes [] (x ∷ os) fit = absurd cc
 length_outcomes (q ∷ qs) [] fit = absurd cc
 length_outcomes (q ∷ qs) (x ∷ os) fit = ap suc (length_outcomes qs os (and_parts (is_outcome_of q x) (are_outcomes_of qs os) fit).1)
 
 -- a part for which a reply is taken has an outcome
-pub within : {os : List Outcome} {k : Call} {i : ℕ} {r : Reply} → Gathers os k → TakesFor k i r → i < length os
+pub within : {os : List PartOutcome} {k : Call} {i : ℕ} {r : Reply} → Gathers os k → TakesFor k i r → i < length os
 within {os} {k} {i} g t = omega (arith, length_outcomes (cut k) os g.fit, slice_get_within (cut k) i t.asked t.there)
 
 -- each part of a call fills its place in the buffer
@@ -97,21 +97,21 @@ nothing_came k n e = came_none _ (fills k) n (length_fills k ∙ e)
 pub gathers_none : (k : Call) (n : ℕ) → first_fault (call_faults k) ≡ None → length (cut k) ≡ n → Gathers (replicate n outcome.Waiting) k
 gathers_none k n good e = record { good = good; fit = outcomes_waiting (cut k) n e }
 
-pub gave_up : (os : List Outcome) (i first_sent now : ℕ) (k : Call) → came (set os i (outcome.GivenUp first_sent now)) k ≡ set (came os k) i (Some (GivenUp first_sent now))
+pub gave_up : (os : List PartOutcome) (i first_sent now : ℕ) (k : Call) → came (set os i (outcome.GivenUp first_sent now)) k ≡ set (came os k) i (Some (GivenUp first_sent now))
 gave_up os i first_sent now k = came_set _ (fills k) os i _ _ (λ bytes. refl)
 
-pub gathers_given_up : (os : List Outcome) (i first_sent now : ℕ) (k : Call) → Gathers os k → Gathers (set os i (outcome.GivenUp first_sent now)) k
+pub gathers_given_up : (os : List PartOutcome) (i first_sent now : ℕ) (k : Call) → Gathers os k → Gathers (set os i (outcome.GivenUp first_sent now)) k
 gathers_given_up os i first_sent now k g = record { good = g.good; fit = outcomes_set_any (cut k) os i first_sent now g.fit }
 
 -- ---- take
 -- what holds after a reply was taken, the outcomes and the call having become os' and k'
-pub record Took (os os' : List Outcome) (k k' : Call) (i : ℕ) (r : Reply) : Type 0 where
+pub record Took (os os' : List PartOutcome) (k k' : Call) (i : ℕ) (r : Reply) : Type 0 where
   pub came_is : came os' k' ≡ set (came os k) i (Some (Replied r))
   pub emptied_is : emptied k' ≡ emptied k
   pub gathers : Gathers os' k'
 
 -- a reply without bytes leaves the call
-took_plain : (os : List Outcome) (k : Call) (i : ℕ) (r : Reply) → Gathers os k → TakesFor k i r → ((bytes : List ℕ) → ending_in bytes (outcome_of r) ≡ Some (Replied r)) → Took os (set os i (outcome_of r)) k k i r
+took_plain : (os : List PartOutcome) (k : Call) (i : ℕ) (r : Reply) → Gathers os k → TakesFor k i r → ((bytes : List ℕ) → ending_in bytes (outcome_of r) ≡ Some (Replied r)) → Took os (set os i (outcome_of r)) k k i r
 took_plain os k i r g t same = record {
   came_is = came_set _ (fills k) os i (outcome_of r) (Some (Replied r)) same;
   emptied_is = refl;
@@ -150,7 +150,7 @@ pub first_alone : (q asked : Request) (i : ℕ) → slice_get (q ∷ []) i ≡ S
 first_alone q asked zero at = (refl, cc)
 first_alone q asked (suc i) at = absurd cc
 
-took_read : (os : List Outcome) (addr : Addr) (buf : List ℕ) (i : ℕ) (bytes : List ℕ) → Gathers os (call.Read addr buf) → TakesFor (call.Read addr buf) i (reply.Got bytes)
+took_read : (os : List PartOutcome) (addr : Addr) (buf : List ℕ) (i : ℕ) (bytes : List ℕ) → Gathers os (call.Read addr buf) → TakesFor (call.Read addr buf) i (reply.Got bytes)
     → Took os (set os i (outcome.Got (length bytes))) (call.Read addr buf) (call_with i (reply.Got bytes) (call.Read addr buf)) i (reply.Got bytes)
 took_read os addr buf i bytes g t =
     let k : Call = call.Read addr buf in
@@ -159,7 +159,7 @@ took_read os addr buf i bytes g t =
     let len : length new ≡ length buf = length-with_bytes (before i (fills k)) bytes buf place.fits in
     let lens : ℕ → List ℕ = λ n. map (λ p. p.1) (pieces addr.0 n) in
     let asks : ℕ → List Request = λ n. map (λ p. request.Read (record { 0 = p.0 }) p.1) (pieces addr.0 n) in
-    let os' : List Outcome = set os i (outcome.Got (length bytes)) in
+    let os' : List PartOutcome = set os i (outcome.Got (length bytes)) in
     record {
       came_is = ap (λ n. came_in new (lens n) os') len ∙ came_put buf (fills k) os i (length bytes) bytes place.size (omega arith) place.fits;
       emptied_is = ap (λ n. call.Read addr (zeros n)) len;
@@ -169,7 +169,7 @@ took_read os addr buf i bytes g t =
       };
     }
 
-took_offload : (os : List Outcome) (number op : ℕ) (sent buf : List ℕ) (i : ℕ) (answer : List ℕ) → Gathers os (call.Offload number op sent buf) → TakesFor (call.Offload number op sent buf) i (reply.Got answer)
+took_offload : (os : List PartOutcome) (number op : ℕ) (sent buf : List ℕ) (i : ℕ) (answer : List ℕ) → Gathers os (call.Offload number op sent buf) → TakesFor (call.Offload number op sent buf) i (reply.Got answer)
     → Took os (set os i (outcome.Got (length answer))) (call.Offload number op sent buf) (call_with i (reply.Got answer) (call.Offload number op sent buf)) i (reply.Got answer)
 took_offload os number op sent buf i answer g t =
     let only = first_alone (request.Offload number op (length buf) sent) t.asked i t.there in
@@ -177,7 +177,7 @@ took_offload os number op sent buf i answer g t =
     let new : List ℕ = with_bytes 0 answer buf in
     let fits : 0 + length answer ≤ length buf = omega arith in
     let len : length new ≡ length buf = length-with_bytes 0 answer buf fits in
-    let os' : List Outcome = set os i (outcome.Got (length answer)) in
+    let os' : List PartOutcome = set os i (outcome.Got (length answer)) in
     let faults : ℕ → List (Bool × IssueFault) = λ n. (nat_lt PART_BYTES (length sent), fault.TooLong (as_far_as_told (length sent))) ∷ (nat_lt PART_BYTES n, fault.TooLong (as_far_as_told n)) ∷ [] in
     let put : came_in new (length buf ∷ []) (set os 0 (outcome.Got (length answer))) ≡ set (came_in buf (length buf ∷ []) os) 0 (Some (Replied (reply.Got answer))) = came_put buf (length buf ∷ []) os 0 (length buf) answer refl short fits in
     record {
@@ -200,7 +200,7 @@ no_bytes_of_write addr sent i bytes t =
     let wrong = ap (λ q. is_reply_to q (reply.Got bytes)) at.2 ∙ t.fits in
     cc
 
-pub took : (os : List Outcome) (k : Call) (i : ℕ) (r : Reply) → Gathers os k → TakesFor k i r → Took os (set os i (outcome_of r)) k (call_with i r k) i r
+pub took : (os : List PartOutcome) (k : Call) (i : ℕ) (r : Reply) → Gathers os k → TakesFor k i r → Took os (set os i (outcome_of r)) k (call_with i r k) i r
 took os k i (reply.Refused refusal) g t = took_plain os k i _ g t (λ bytes. refl)
 took os k i reply.Nothing g t = took_plain os k i _ g t (λ bytes. refl)
 took os k i (reply.At addr) g t = took_plain os k i _ g t (λ bytes. refl)
@@ -215,11 +215,11 @@ took os call.Fence i (reply.Got bytes) g t = absurd (let none = t.there in cc)
 
 -- ---- the outcomes in their array, of which the first count
 -- one outcome, put into the array
-pub put_among : (outcomes : List Outcome) (parts : ℕ) {os : List Outcome} {i : ℕ} (o : Outcome) → take parts outcomes ≡ os → i < length os → take parts (set outcomes i o) ≡ set os i o
+pub put_among : (outcomes : List PartOutcome) (parts : ℕ) {os : List PartOutcome} {i : ℕ} (o : PartOutcome) → take parts outcomes ≡ os → i < length os → take parts (set outcomes i o) ≡ set os i o
 put_among outcomes parts {os} {i} o e h =
-    take-set-lt parts outcomes i o (omega (arith, length-take parts outcomes, ap (length {A = Outcome}) e)) ∙ ap (λ (xs : List Outcome). set xs i o) e
+    take-set-lt parts outcomes i o (omega (arith, length-take parts outcomes, ap (length {A = PartOutcome}) e)) ∙ ap (λ (xs : List PartOutcome). set xs i o) e
 
-pub take_done : (outcomes : List Outcome) (parts : ℕ) {os : List Outcome} {i : ℕ} {k k' : Call} {r : Reply} {o : Outcome} → take parts outcomes ≡ os → Gathers os k → TakesFor k i r → o ≡ outcome_of r → k' ≡ call_with i r k
+pub take_done : (outcomes : List PartOutcome) (parts : ℕ) {os : List PartOutcome} {i : ℕ} {k k' : Call} {r : Reply} {o : PartOutcome} → take parts outcomes ≡ os → Gathers os k → TakesFor k i r → o ≡ outcome_of r → k' ≡ call_with i r k
     → Took os (take parts (set outcomes i o)) k k' i r
 take_done outcomes parts {os} {i} {k} {k'} {r} {o} e g t is call_is =
     let new : take parts (set outcomes i o) ≡ set os i (outcome_of r) = put_among outcomes parts o e (within g t) ∙ ap (set os i) is in

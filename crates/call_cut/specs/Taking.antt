@@ -10,8 +10,8 @@ use Rattle.cl_types.specs.declared.reply.Reply.TheVariants as reply
 use Rattle.client_model.specs.Cut.{cut}
 use Rattle.frame_model.specs.Faults.{first_fault}
 use Rattle.client_model.specs.Issue.{call_faults}
-use Rattle.call_cut.specs.declared.outcome.Outcome.{Outcome}
-use Rattle.call_cut.specs.declared.outcome.Outcome.TheVariants as outcome
+use Rattle.call_cut.specs.declared.outcome.PartOutcome.{PartOutcome}
+use Rattle.call_cut.specs.declared.outcome.PartOutcome.TheVariants as outcome
 use Rattle.call_cut.specs.Fills.{fills, before}
 
 -- a refusal; else a value of the request's kind, as long as it asks, for an Offload at most as long
@@ -32,7 +32,7 @@ pub record TakesFor (k : Call) (i : ℕ) (r : Reply) : Type 0 where
   pub fits : IsTrue (is_reply_to asked r)
 
 -- the outcome that a reply makes
-abbrev pub outcome_of : Reply → Outcome
+abbrev pub outcome_of : Reply → PartOutcome
 outcome_of (reply.Refused refusal) = outcome.Refused refusal
 outcome_of reply.Nothing = outcome.Nothing
 outcome_of (reply.At addr) = outcome.At addr
@@ -46,7 +46,7 @@ call_with i (reply.Got answer) (call.Offload number op bytes buf) = call.Offload
 call_with i r k = k
 
 -- the outcome is one of a part that asks this
-abbrev pub is_outcome_of : Request → Outcome → Bool
+abbrev pub is_outcome_of : Request → PartOutcome → Bool
 is_outcome_of q outcome.Waiting = true
 is_outcome_of q (outcome.Refused refusal) = true
 is_outcome_of q (outcome.GivenUp first_sent now) = true
@@ -59,12 +59,12 @@ is_outcome_of (request.Offload number op out bytes) (outcome.Got len) = leb len 
 is_outcome_of q o = false
 
 -- the outcomes are those of these parts, one for each
-abbrev pub are_outcomes_of : List Request → List Outcome → Bool
+abbrev pub are_outcomes_of : List Request → List PartOutcome → Bool
 are_outcomes_of [] [] = true
 are_outcomes_of (q ∷ qs) (o ∷ os) = is_outcome_of q o && are_outcomes_of qs os
 are_outcomes_of qs os = false
 
 -- the outcomes are of this call, which is a good one
-pub record Gathers (outcomes : List Outcome) (k : Call) : Type 0 where
+pub record Gathers (outcomes : List PartOutcome) (k : Call) : Type 0 where
   pub good : first_fault (call_faults k) ≡ None
   pub fit : IsTrue (are_outcomes_of (cut k) outcomes)

@@ -13,9 +13,9 @@ ghost use Rattle.call_cut.specs.Taking.{Gathers, TakesFor, outcome_of, call_with
 ghost use Rattle.call_cut.specs.Ends.{is_waiting, given_up_among, refusal_among, failure_among, only_value_of, got_of, value_of, with_rest_cleared};
 
 use crate::buffer::{clear, put_part, zero_from};
-use crate::outcome::Outcome;
-use crate::pieces::MOST_PARTS;
+use crate::outcome::PartOutcome;
 use cl_types::call::Call;
+use cl_types::limits::MOST_PARTS;
 use cl_types::reply::{Answer, ReplyRef, Value};
 use std::marker::Model;
 
@@ -23,16 +23,16 @@ use std::marker::Model;
 #[derive(Drop)]
 pub struct Gather {
     // Only the first `parts` count.
-    outcomes: [Outcome; MOST_PARTS],
+    outcomes: [PartOutcome; MOST_PARTS],
     parts: u32,
 }
 
 impl Model for Gather {
     ghost use Rattle.std.specs.Prelude.{List, take, ◌≤◌};
-    ghost use Rattle.call_cut.specs.declared.outcome.Outcome.{Outcome};
-    ghost use Rattle.call_cut.specs.declared.pieces.TheConstants.{MOST_PARTS};
+    ghost use Rattle.call_cut.specs.declared.outcome.PartOutcome.{PartOutcome};
+    ghost use Rattle.cl_types.specs.declared.limits.TheConstants.{MOST_PARTS};
 
-    ghost Value = { List Outcome };
+    ghost Value = { List PartOutcome };
 
     ghost view = { λ g. take g.parts g.outcomes };
 
@@ -50,7 +50,7 @@ impl Gather {
             → Gathers result k }
     {
         Gather {
-            outcomes: [Outcome::Waiting; MOST_PARTS],
+            outcomes: [PartOutcome::Waiting; MOST_PARTS],
             parts,
         }
     }
@@ -74,7 +74,7 @@ impl Gather {
             → came self.new k ≡ slice_set (came self.old k) i (Some (GivenUp first_sent now)) }
         ensures gathered { (k : Call) → Gathers self.old k → Gathers self.new k }
     {
-        self.outcomes[i as usize] = Outcome::GivenUp { first_sent, now };
+        self.outcomes[i as usize] = PartOutcome::GivenUp { first_sent, now };
     }
 
     /// The answer, with the call's buffer filled for it. `None` comes exactly where of some part
@@ -101,43 +101,43 @@ impl Gather {
 }
 
 /// The outcome of a part by its reply, whose bytes are put into the call's buffer.
-fn kept(call: &mut Call, i: u32, reply: &ReplyRef) -> Outcome
+fn kept(call: &mut Call, i: u32, reply: &ReplyRef) -> PartOutcome
     requires good { first_fault (call_faults call.old) ≡ None }
     requires fits { TakesFor call.old i (reply_of reply.now) }
     ensures outcome { result ≡ outcome_of (reply_of reply.now) }
     ensures call { call.new ≡ call_with i (reply_of reply.now) call.old }
 {
     match *reply {
-        ReplyRef::Refused(refusal) => Outcome::Refused(refusal),
-        ReplyRef::Nothing => Outcome::Nothing,
-        ReplyRef::At(addr) => Outcome::At(addr),
-        ReplyRef::Word(word) => Outcome::Word(word),
+        ReplyRef::Refused(refusal) => PartOutcome::Refused(refusal),
+        ReplyRef::Nothing => PartOutcome::Nothing,
+        ReplyRef::At(addr) => PartOutcome::At(addr),
+        ReplyRef::Word(word) => PartOutcome::Word(word),
         ReplyRef::Got(bytes) => {
             put_part(call, i, bytes);
-            Outcome::Got(bytes.len() as u32)
+            PartOutcome::Got(bytes.len() as u32)
         }
     }
 }
 
 /// Whether of some part nothing has come yet.
-fn is_any_waiting(outcomes: &[Outcome]) -> bool
+fn is_any_waiting(outcomes: &[PartOutcome]) -> bool
     ensures { result ≡ list_any is_waiting outcomes.now }
 {
     outcomes.iter().any(|outcome| is_still(outcome))
 }
 
 /// Whether nothing has come yet.
-fn is_still(outcome: &Outcome) -> bool
+fn is_still(outcome: &PartOutcome) -> bool
     ensures { result ≡ is_waiting outcome.now }
 {
     match outcome {
-        Outcome::Waiting => true,
+        PartOutcome::Waiting => true,
         _ => false,
     }
 }
 
 /// The answer where a part was given up, or else where one was refused.
-fn failure(outcomes: &[Outcome]) -> Option<Answer>
+fn failure(outcomes: &[PartOutcome]) -> Option<Answer>
     ensures { result ≡ failure_among outcomes.now }
 {
     let given_up = first_given_up(outcomes);
@@ -148,11 +148,11 @@ fn failure(outcomes: &[Outcome]) -> Option<Answer>
 }
 
 /// The answer by the least part that was given up.
-fn first_given_up(outcomes: &[Outcome]) -> Option<Answer>
+fn first_given_up(outcomes: &[PartOutcome]) -> Option<Answer>
     ensures { result ≡ given_up_among outcomes.now }
 {
     for outcome in outcomes {
-        if let Outcome::GivenUp { first_sent, now } = *outcome {
+        if let PartOutcome::GivenUp { first_sent, now } = *outcome {
             return Some(Answer::TimedOut { first_sent, now });
         }
     }
@@ -160,11 +160,11 @@ fn first_given_up(outcomes: &[Outcome]) -> Option<Answer>
 }
 
 /// The answer by the least part that was refused.
-fn first_refusal(outcomes: &[Outcome]) -> Option<Answer>
+fn first_refusal(outcomes: &[PartOutcome]) -> Option<Answer>
     ensures { result ≡ refusal_among outcomes.now }
 {
     for outcome in outcomes {
-        if let Outcome::Refused(refusal) = *outcome {
+        if let PartOutcome::Refused(refusal) = *outcome {
             return Some(Answer::Refused(refusal));
         }
     }
@@ -172,7 +172,7 @@ fn first_refusal(outcomes: &[Outcome]) -> Option<Answer>
 }
 
 /// The value of a call whose parts are all done. What an Offload left of the buffer is made zeros.
-fn finish(outcomes: &[Outcome], call: &mut Call) -> Value
+fn finish(outcomes: &[PartOutcome], call: &mut Call) -> Value
     requires gathered { Gathers outcomes.now call.old }
     ensures value { result ≡ value_of outcomes.now call.old }
     ensures call { call.new ≡ with_rest_cleared outcomes.now call.old }
@@ -193,22 +193,22 @@ fn finish(outcomes: &[Outcome], call: &mut Call) -> Value
 }
 
 /// How many bytes came of the first part.
-fn got(outcomes: &[Outcome]) -> u32
+fn got(outcomes: &[PartOutcome]) -> u32
     ensures { result ≡ got_of outcomes.now }
 {
     match outcomes {
-        [Outcome::Got(len), ..] => *len,
+        [PartOutcome::Got(len), ..] => *len,
         _ => 0,
     }
 }
 
 /// The value that came of the first part.
-fn only_value(outcomes: &[Outcome]) -> Value
+fn only_value(outcomes: &[PartOutcome]) -> Value
     ensures { result ≡ only_value_of outcomes.now }
 {
     match outcomes {
-        [Outcome::At(addr), ..] => Value::At(*addr),
-        [Outcome::Word(word), ..] => Value::Word(*word),
+        [PartOutcome::At(addr), ..] => Value::At(*addr),
+        [PartOutcome::Word(word), ..] => Value::Word(*word),
         _ => Value::Nothing,
     }
 }

@@ -17,5 +17,5 @@ mod outcome;
 mod pieces;
 
 pub use gather::Gather;
-pub use outcome::Outcome;
+pub use outcome::PartOutcome;
 pub use pieces::{part, parts};

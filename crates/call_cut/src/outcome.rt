@@ -5,7 +5,7 @@ use cl_types::reply::Refusal;
 
 /// What came of a part. The bytes of a reply stand in the call's buffer.
 #[derive(Clone, Copy, Debug, PartialEq, Eq)]
-pub enum Outcome {
+pub enum PartOutcome {
     /// Nothing yet.
     Waiting,
     /// It was refused.

@@ -6,18 +6,12 @@ ghost use Rattle.client_model.specs.Cut.{cut, pieces, piece_len as piece_len_of}
 ghost use Rattle.frame_model.specs.Faults.{first_fault};
 ghost use Rattle.client_model.specs.Issue.{call_faults};
 ghost use Rattle.cl_types.specs.Requests.{request_of};
+ghost use Rattle.cl_types.specs.declared.limits.TheConstants.{MOST_PARTS};
 
 use cl_types::call::Call;
-use cl_types::limits::{ADDRESS_END, CALL_BYTES, PAGE_BYTES, PART_BYTES};
+use cl_types::limits::{ADDRESS_END, CALL_BYTES, MOST_PARTS, PAGE_BYTES, PART_BYTES};
 use cl_types::numbers::Addr;
 use cl_types::request::RequestRef;
-
-/// The greatest number of parts of a call.
-pub const MOST_PARTS: usize = 65;
-
-// A page is a whole number of parts, so at most two pieces of a call are shorter than a part: the
-// one at the end of its first page, and the last.
-const _: () = prove!(MOST_PARTS == (CALL_BYTES / PART_BYTES) as usize + 1);
 
 /// A piece of the bytes of a call: `len` bytes at the offset `from`.
 #[derive(Clone, Copy)]

@@ -4,9 +4,9 @@ use Rattle.std.specs.declared.option.Option.{Option}
 use Rattle.cl_outside.specs.Counts.{LastFailed, NoneFailed}
 use Rattle.cl_outside.specs.Told.{Took, Added}
 use Rattle.cl_outside.specs.declared.faults.Faults.{Faults}
-use Rattle.cl_outside.specs.declared.loops.TheConstants.{INPUT_LIMIT}
 use Rattle.cl_outside.specs.declared.loops.Stop.{Stop}
 use Rattle.cl_outside.specs.declared.loops.Stop.TheVariants.{ReadFault, TooLong, WriteFault, NoMemory}
+use Rattle.cl_types.specs.declared.limits.TheConstants.{INPUT_BYTES}
 
 -- reading an input stops for one of these
 abbrev pub IsReadStop : Stop → Type 0
@@ -44,7 +44,7 @@ TookUpTo most before after = (bytes : List ℕ) × (length bytes ≤ most) × To
 abbrev pub GotPiece : Bool → List ℕ → List ℕ → Option (List ℕ) → Option (List ℕ) → Type 0
 -- a piece of at least one byte joined the bytes, which are at most one too many
 GotPiece true old new before after =
-    (piece : List ℕ) × (0 < length piece) × (length new ≤ INPUT_LIMIT + 1) × (new ≡ old ++ piece) × Took piece before after
+    (piece : List ℕ) × (0 < length piece) × (length new ≤ INPUT_BYTES + 1) × (new ≡ old ++ piece) × Took piece before after
 -- nothing was left
 GotPiece false old new before after = (new ≡ old) × (after ≡ before) × IfSome before (λ left. left ≡ [])
 

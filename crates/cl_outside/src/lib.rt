@@ -23,7 +23,7 @@ mod wire;
 
 pub use clock::Clock;
 pub use faults::Faults;
-pub use loops::{INPUT_LIMIT, Stop, read_input, write_all};
+pub use loops::{Stop, read_input, write_all};
 pub use memory::{Datagram, MemorySink, MemorySource, ScriptClock, ScriptWire};
 pub use real::{StdClock, StdSink, StdSource, UdpWire};
 pub use sink::{Sink, Wrote};

@@ -3,12 +3,11 @@
 ghost use Rattle.std.specs.Prelude.{◌≡◌, ◌<◌, ◌≤◌, ◌+◌, ◌-◌, ◌++◌, [], length, IfOk, OnOk, IfErr, OnErr, IfSome, IsErrOf};
 ghost use Rattle.cl_outside.specs.Told.{Added};
 ghost use Rattle.cl_outside.specs.Loops.{CountsReads, CountsWrites, GotPiece, IsPieceStop, IsReadStop, TookCount, TookUpTo, WroteFront};
+ghost use Rattle.cl_types.specs.declared.limits.TheConstants.{INPUT_BYTES};
 
 use crate::{Read, Sink, Source, Wrote};
+use cl_types::limits::INPUT_BYTES;
 use std::alloc::{AllocError, Global};
-
-/// The largest number of bytes of an input.
-pub const INPUT_LIMIT: usize = 16_777_216;
 
 // How many bytes are read at once.
 const PIECE: usize = 4096;
@@ -18,7 +17,7 @@ const PIECE: usize = 4096;
 pub enum Stop {
     /// A read failed: the source's count of faults rose.
     ReadFault,
-    /// The input has more than `INPUT_LIMIT` bytes.
+    /// The input has more than `INPUT_BYTES` bytes.
     TooLong,
     /// There was no memory to keep what was read.
     NoMemory,
@@ -39,17 +38,17 @@ impl From<AllocError> for Stop {
 
 // Reads one piece and appends it. False says that the input has ended.
 fn read_piece<S: Source>(source: &mut S, bytes: &mut Vec<u8>) -> Result<bool, Stop>
-    requires { length bytes.old.items ≤ INPUT_LIMIT }
+    requires { length bytes.old.items ≤ INPUT_BYTES }
     ensures got { IfOk result (λ more.
         GotPiece more bytes.old.items bytes.new.items (S.left source.old) (S.left source.new)) }
     ensures stop { IfErr result IsPieceStop }
-    ensures taken { OnErr result (TookUpTo (INPUT_LIMIT + 1 - length bytes.old.items)
+    ensures taken { OnErr result (TookUpTo (INPUT_BYTES + 1 - length bytes.old.items)
         (S.left source.old) (S.left source.new)) }
     ensures kept { IsErrOf result Stop.ReadFault → S.left source.new ≡ S.left source.old }
     ensures counted { CountsReads (S.faults source.old) (S.faults source.new) result }
 {
     let mut piece = [0u8; PIECE];
-    let room = (INPUT_LIMIT + 1 - bytes.len()).min(PIECE);
+    let room = (INPUT_BYTES + 1 - bytes.len()).min(PIECE);
     match source.read(&mut piece[..room]) {
         Read::Got(count) => {
             bytes.extend_from_slice(&piece[..count])?;
@@ -60,24 +59,24 @@ fn read_piece<S: Source>(source: &mut S, bytes: &mut Vec<u8>) -> Result<bool, St
     }
 }
 
-/// Reads an input to its end. An input of more than `INPUT_LIMIT` bytes is read up to the first
+/// Reads an input to its end. An input of more than `INPUT_BYTES` bytes is read up to the first
 /// byte that is too many.
 pub fn read_input<S: Source>(alloc: Global, source: &mut S) -> Result<Vec<u8>, Stop>
     ensures all { IfOk result (λ bytes. IfSome (S.left source.old) (λ left. bytes.items ≡ left)) }
     ensures end { OnOk result (IfSome (S.left source.new) (λ left. left ≡ [])) }
-    ensures short { IfOk result (λ bytes. length bytes.items ≤ INPUT_LIMIT) }
+    ensures short { IfOk result (λ bytes. length bytes.items ≤ INPUT_BYTES) }
     ensures counted { CountsReads (S.faults source.old) (S.faults source.new) result }
     ensures stop { IfErr result IsReadStop }
-    ensures taken { TookUpTo (INPUT_LIMIT + 1) (S.left source.old) (S.left source.new) }
+    ensures taken { TookUpTo (INPUT_BYTES + 1) (S.left source.old) (S.left source.new) }
     ensures within { IsErrOf result Stop.ReadFault
-        → TookUpTo INPUT_LIMIT (S.left source.old) (S.left source.new) }
+        → TookUpTo INPUT_BYTES (S.left source.old) (S.left source.new) }
     ensures long { IsErrOf result Stop.TooLong
-        → IfSome (S.left source.old) (λ left. INPUT_LIMIT < length left) }
+        → IfSome (S.left source.old) (λ left. INPUT_BYTES < length left) }
     ensures stopped { IsErrOf result Stop.TooLong
-        → TookCount (INPUT_LIMIT + 1) (S.left source.old) (S.left source.new) }
+        → TookCount (INPUT_BYTES + 1) (S.left source.old) (S.left source.new) }
 {
     let mut bytes = Vec::new(alloc);
-    while bytes.len() <= INPUT_LIMIT {
+    while bytes.len() <= INPUT_BYTES {
         if !read_piece(source, &mut bytes)? {
             return Ok(bytes);
         }

@@ -3,6 +3,7 @@ use Rattle.std.specs.Prelude.{ℕ, ◌+◌, ◌*◌, ◌/◌, ◌%◌, ◌^◌, 
 use Rattle.std.specs.List.{list_any}
 use Rattle.std.specs.Ordering.{nat_cmp, ordering_then}
 use Rattle.std.specs.declared.cmp.Ordering.{Ordering}
+use Rattle.cl_types.specs.declared.numbers.TheConstants.{LAST_PID, OFFLOAD_SPACES}
 
 -- a page by the number of its space and its number there
 abbrev pub Place : Type 0
@@ -14,7 +15,11 @@ place_cmp a b = ordering_then (nat_cmp a.0 b.0) (nat_cmp a.1 b.1)
 
 -- the space is a process's; those above are the offloads'
 abbrev pub is_process : ℕ → Bool
-is_process space = leb 1 space && leb space 65279
+is_process space = leb 1 space && leb space LAST_PID
+
+-- the number of the space of offload k
+abbrev pub space_no : ℕ → ℕ
+space_no k = OFFLOAD_SPACES + k
 
 -- 2, 4 and so on to 65,536
 abbrev pub bucket_counts : List ℕ

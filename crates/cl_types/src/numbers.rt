@@ -7,6 +7,9 @@ use std::marker::Model;
 /// The greatest number of a process. The numbers above it are those of the offloads' spaces.
 pub const LAST_PID: u16 = 65_279;
 
+/// The number of the first offload's space, behind those of the processes.
+pub const OFFLOAD_SPACES: u16 = 65_280;
+
 /// The number of a client: any. Two clients of one node never share a number.
 #[derive(Clone, Copy, Debug, PartialEq, Eq)]
 pub struct ClientNo(pub u16);
@@ -28,7 +31,7 @@ pub struct PageNo(pub u32);
 #[derive(Clone, Copy, Debug, PartialEq, Eq)]
 pub struct Addr(pub u32);
 
-/// The number of any space: a process's own, or 65,280 + k for offload k.
+/// The number of any space: a process's own, or `OFFLOAD_SPACES` + k for offload k.
 #[derive(Clone, Copy, Debug, PartialEq, Eq)]
 pub struct Space16(pub u16);
 
@@ -38,12 +41,13 @@ pub struct Pid(u16);
 
 impl Model for Pid {
     ghost use Rattle.std.specs.Prelude.{ℕ, ◌<◌, ◌≤◌};
+    ghost use Rattle.cl_types.specs.declared.numbers.TheConstants.{LAST_PID};
 
     ghost Value = { ℕ };
 
     ghost view = { λ pid. pid.0 };
 
-    ghost invariant = { λ pid. (0 < pid.0) × (pid.0 ≤ 65279) };
+    ghost invariant = { λ pid. (0 < pid.0) × (pid.0 ≤ LAST_PID) };
 
     ghost inverse = { λ n. record { 0 = n } };
 }

@@ -22,7 +22,7 @@ use Rattle.client_core.specs.declared.answers.Poll.TheVariants as poll
 use Rattle.client_core.specs.Answers.{frame_bytes, poll_answer, poll_bytes}
 use Rattle.client_core.specs.Held.{Held, Holding, after_coming, changed, fence_first_in, part_to_send, request_at, with_one_sent}
 use Rattle.client_core.specs.Fields.{call_in, flown_of, state_of, IsSound}
-use Rattle.client_core.specs.Polls.{Does, Turned, due_in}
+use Rattle.client_core.specs.Polls.{Does, IsPolled, due_in}
 use Rattle.client_core.proofs.Basics.{none_some}
 use Rattle.client_core.proofs.Deciding.{fence_found, next_found}
 use Rattle.client_core.proofs.Issuing.{first_ends}
@@ -149,7 +149,7 @@ sound_later c pid issued sendings calls f last now sound le = record {
 }
 
 -- ---- the paths of a poll
-turned_so : (s new : ClientState) (answer : Poll) (out out' : List ℕ) (p : Polled) → poll_of s s.last ≡ p → Does p s new answer out out' → Turned s new answer out out'
+turned_so : (s new : ClientState) (answer : Poll) (out out' : List ℕ) (p : Polled) → poll_of s s.last ≡ p → Does p s new answer out out' → IsPolled s new answer out out'
 turned_so s new answer out out' p is does = record { does = subst (λ q. Does q s new answer out out') (sym is) does }
 
 module _ (no : ClientNo) (pid issued sendings : ℕ) (calls : Holding) (f : Flights) (last : ℕ) (sound : IsSound (state_of no pid issued sendings calls f last) calls.held f) (old : ClientState) (is : state_of no pid issued sendings calls f last ≡ old) where
@@ -160,21 +160,21 @@ module _ (no : ClientNo) (pid issued sendings : ℕ) (calls : Holding) (f : Flig
   due_state d e = ap (λ fs. due_of fs last) sound.flight ∙ sym e
 
   pub turns_old : (part : Part) (orig first : ℕ) (d : Due) → d ≡ due_of f.flown last → d ≡ due.GiveUp part orig first → (new : ClientState) (answer : Poll) (out : List ℕ) →
-      ((p : Polled) (out : List ℕ) → to_give_up old old.last ≡ Some p → Does p old new answer out out) → Turned old new answer out out
+      ((p : Polled) (out : List ℕ) → to_give_up old old.last ≡ Some p → Does p old new answer out out) → IsPolled old new answer out out
   turns_old part orig first d e give new answer out =
       let u = gave_up no pid issued sendings calls f last sound part orig first (due_state d e ∙ give) in
-      subst (λ s. ((p : Polled) (out : List ℕ) → to_give_up s s.last ≡ Some p → Does p s new answer out out) → Turned s new answer out out) is
+      subst (λ s. ((p : Polled) (out : List ℕ) → to_give_up s s.last ≡ Some p → Does p s new answer out out) → IsPolled s new answer out out) is
       (λ does. turned_so (state_of no pid issued sendings calls f last) new answer out out (GivesUp u.x) (by_first (state_of no pid issued sendings calls f last) last (GivesUp u.x) u.rule) (does (GivesUp u.x) out u.rule))
 
   none_old : (d : Due) → d ≡ due_of f.flown last → ((part : Part) (orig first : ℕ) → d ≡ due.GiveUp part orig first → ⊥) → to_give_up (state_of no pid issued sendings calls f last) last ≡ None
   none_old d e not = ap (option_map GivesUp) (nothing_old (flights (state_of no pid issued sendings calls f last)) last (λ part orig first g. not part orig first (sym (due_state d e) ∙ g)))
 
   pub turns_fence : (d : Due) → d ≡ due_of f.flown last → ((part : Part) (orig first : ℕ) → d ≡ due.GiveUp part orig first → ⊥) → (fence : Option CallNo) → fence ≡ fence_first_in calls.held → is_some fence ≡ true → (new : ClientState) (answer : Poll) (out : List ℕ) →
-      ((p : Polled) (out : List ℕ) → fence_first old.calls ≡ Some p → Does p old new answer out out) → Turned old new answer out out
+      ((p : Polled) (out : List ℕ) → fence_first old.calls ≡ Some p → Does p old new answer out out) → IsPolled old new answer out out
   turns_fence d e not None first fence new answer out = absurd cc
   turns_fence d e not (Some n) first fence new answer out =
       let rule : fence_first (map (call_in f.flown) calls.held) ≡ Some (EndsFence n.0) = fence_found f.flown calls.held ∙ ap (option_map (λ (n : CallNo). EndsFence n.0)) (sym first) in
-      subst (λ s. ((p : Polled) (out : List ℕ) → fence_first s.calls ≡ Some p → Does p s new answer out out) → Turned s new answer out out) is
+      subst (λ s. ((p : Polled) (out : List ℕ) → fence_first s.calls ≡ Some p → Does p s new answer out out) → IsPolled s new answer out out) is
       (λ does. turned_so (state_of no pid issued sendings calls f last) new answer out out (EndsFence n.0) (by_second (state_of no pid issued sendings calls f last) last (EndsFence n.0) (none_old d e not) rule) (does (EndsFence n.0) out rule))
 
   pub fence_is : (fence : Option CallNo) → fence ≡ fence_first_in calls.held → is_some fence ≡ true → is_some (fence_first old.calls) ≡ true
@@ -185,10 +185,10 @@ module _ (no : ClientNo) (pid issued sendings : ℕ) (calls : Holding) (f : Flig
   none_first (Some n) first h = absurd cc
 
   pub turns_again : (part : Part) (orig : ℕ) (d : Due) → d ≡ due_of f.flown last → d ≡ due.Resend part orig → (fence : Option CallNo) → fence ≡ fence_first_in calls.held → is_some fence ≡ false → (new : ClientState) (answer : Poll) (out out' : List ℕ) →
-      ((p : Polled) → to_send_again old old.last ≡ Some p → Does p old new answer out out') → Turned old new answer out out'
+      ((p : Polled) → to_send_again old old.last ≡ Some p → Does p old new answer out out') → IsPolled old new answer out out'
   turns_again part orig d e again_is fence first no_fence new answer out out' =
       let u = sent_once_more no pid issued sendings calls f last sound part orig (due_state d e ∙ again_is) in
-      subst (λ s. ((p : Polled) → to_send_again s s.last ≡ Some p → Does p s new answer out out') → Turned s new answer out out') is
+      subst (λ s. ((p : Polled) → to_send_again s s.last ≡ Some p → Does p s new answer out out') → IsPolled s new answer out out') is
       (λ does. turned_so (state_of no pid issued sendings calls f last) new answer out out' (Sends (again (sendings + 1) u.x ∷ []))
       (by_third (state_of no pid issued sendings calls f last) last (Sends (again (sendings + 1) u.x ∷ [])) (none_old d e (λ part' orig' first' g. differ part' orig' first' (sym again_is ∙ g))) (none_first fence first no_fence) u.rule)
       (does (Sends (again (sendings + 1) u.x ∷ [])) u.rule))
@@ -197,18 +197,18 @@ module _ (no : ClientNo) (pid issued sendings : ℕ) (calls : Holding) (f : Flig
       differ part' orig' first' z = cc
 
   pub turns_next : (d : Due) → d ≡ due_of f.flown last → ((part : Part) (orig first : ℕ) → d ≡ due.GiveUp part orig first → ⊥) → ((part : Part) (orig : ℕ) → d ≡ due.Resend part orig → ⊥) → (fence : Option CallNo) → fence ≡ fence_first_in calls.held → is_some fence ≡ false →
-      (new : ClientState) (answer : Poll) (out out' : List ℕ) → Does (unwrap_or (to_send old) Idles) old new answer out out' → Turned old new answer out out'
+      (new : ClientState) (answer : Poll) (out out' : List ℕ) → Does (unwrap_or (to_send old) Idles) old new answer out out' → IsPolled old new answer out out'
   turns_next d e not_old not_due fence first no_fence new answer out out' =
-      subst (λ s. Does (unwrap_or (to_send s) Idles) s new answer out out' → Turned s new answer out out') is
+      subst (λ s. Does (unwrap_or (to_send s) Idles) s new answer out out' → IsPolled s new answer out out') is
       (λ does. turned_so (state_of no pid issued sendings calls f last) new answer out out' (unwrap_or (to_send (state_of no pid issued sendings calls f last)) Idles)
       (by_fourth (state_of no pid issued sendings calls f last) last (none_old d e not_old) (none_first fence first no_fence)
       (ap (option_map (λ (x : Sending). Sends (again (sendings + 1) x ∷ []))) (nothing_due (flights (state_of no pid issued sendings calls f last)) last (λ part orig first g. not_old part orig first (sym (due_state d e) ∙ g)) (λ part orig g. not_due part orig (sym (due_state d e) ∙ g)))))
       does)
 
 -- the whole poll is the turn at the new moment
-pub polled : (s old new : ClientState) (t : ℕ) (answer : Poll) (out out' : List ℕ) → at_moment t old ≡ s → Turned s new answer out out' → PollDone old new t answer out out'
+pub polled : (s old new : ClientState) (t : ℕ) (answer : Poll) (out out' : List ℕ) → at_moment t old ≡ s → IsPolled s new answer out out' → PollDone old new t answer out out'
 polled s old new t answer out out' is turned =
-    poll_done old new t answer out out' (poll_of old t) refl ((subst (λ z. Turned z new answer out out') (sym is) turned).does)
+    poll_done old new t answer out out' (poll_of old t) refl ((subst (λ z. IsPolled z new answer out out') (sym is) turned).does)
 
 -- ---- the fourth rule
 none_sent : (o : Option ClientPart) (sends : ClientPart → Polled) → option_map (λ (p : ClientPart). p.part) o ≡ None → option_map sends o ≡ None

@@ -7,20 +7,20 @@ use Rattle.std.proofs.lemmas.List.Sums.{sum_by-cons}
 use Rattle.cl_types.specs.declared.call.Call.{Call}
 use Rattle.client_model.specs.Client.{buffer_of, every}
 use Rattle.client_model.specs.Cut.{Ending}
-use Rattle.call_cut.specs.declared.outcome.Outcome.{Outcome}
+use Rattle.call_cut.specs.declared.outcome.PartOutcome.{PartOutcome}
 use Rattle.call_cut.specs.Came.{came, came_in}
 use Rattle.call_cut.specs.Fills.{fills}
 use Rattle.call_cut.specs.Taking.{Gathers}
 use Rattle.client_core.specs.Rows.{IsRow}
 use Rattle.client_core.proofs.Basics.{none_some}
 
-came_in_within : (buf ns : List ℕ) (os : List Outcome) (i : ℕ) (x : Option Ending) → slice_get (came_in buf ns os) i ≡ Some x → i < length os
+came_in_within : (buf ns : List ℕ) (os : List PartOutcome) (i : ℕ) (x : Option Ending) → slice_get (came_in buf ns os) i ≡ Some x → i < length os
 came_in_within buf [] os i x h = none_some x h
 came_in_within buf (n ∷ ns) [] i x h = none_some x h
 came_in_within buf (n ∷ ns) (o ∷ os) zero x h = omega arith
 came_in_within buf (n ∷ ns) (o ∷ os) (suc i) x h = let rest = came_in_within (drop n buf) ns os i x h in omega arith
 
-pub came_within : (os : List Outcome) (k : Call) (i : ℕ) (x : Option Ending) → slice_get (came os k) i ≡ Some x → i < length os
+pub came_within : (os : List PartOutcome) (k : Call) (i : ℕ) (x : Option Ending) → slice_get (came os k) i ≡ Some x → i < length os
 came_within os k i x h = came_in_within (buffer_of k) (fills k) os i x h
 
 waiting_one : (cs : List (Option Ending)) (i : ℕ) → slice_get cs i ≡ Some None → 1 ≤ count_by is_none cs
@@ -40,10 +40,10 @@ one_less (c ∷ cs) zero e h =
 one_less (c ∷ cs) (suc i) e h =
     omega (arith, sum_by-cons (λ (o : Option Ending). cond (is_none o) 1 0) c cs, sum_by-cons (λ (o : Option Ending). cond (is_none o) 1 0) c (set cs i (Some e)), one_less cs i e h)
 
-pub row_waits : {k : Call} {g : List Outcome} {parts sent waiting : ℕ} (i : ℕ) → IsRow k g parts sent waiting → slice_get (came g k) i ≡ Some None → 1 ≤ waiting
+pub row_waits : {k : Call} {g : List PartOutcome} {parts sent waiting : ℕ} (i : ℕ) → IsRow k g parts sent waiting → slice_get (came g k) i ≡ Some None → 1 ≤ waiting
 row_waits {k} {g} i r h = let one = waiting_one (came g k) i h in omega (arith, r.still_waiting)
 
-pub row_came : {k k' : Call} {g g' : List Outcome} {parts sent waiting : ℕ} (i : ℕ) (e : Ending) → IsRow k g parts sent waiting → slice_get (came g k) i ≡ Some None → Gathers g' k' → came g' k' ≡ set (came g k) i (Some e) →
+pub row_came : {k k' : Call} {g g' : List PartOutcome} {parts sent waiting : ℕ} (i : ℕ) (e : Ending) → IsRow k g parts sent waiting → slice_get (came g k) i ≡ Some None → Gathers g' k' → came g' k' ≡ set (came g k) i (Some e) →
     IsRow k' g' parts sent (waiting - 1)
 row_came {k} {k'} {g} {g'} {parts} {sent} {waiting} i e r h gathers is = record {
   gathers = gathers;
@@ -74,5 +74,5 @@ over_is (Some e ∷ cs) =
     go None = refl
     go (Some x) = refl
 
-pub over_row : {k : Call} {g : List Outcome} {parts sent waiting : ℕ} → IsRow k g parts sent waiting → (waiting == 0) ≡ is_some (every (came g k))
+pub over_row : {k : Call} {g : List PartOutcome} {parts sent waiting : ℕ} → IsRow k g parts sent waiting → (waiting == 0) ≡ is_some (every (came g k))
 over_row {k} {g} r = ap (λ n. n == 0) r.still_waiting ∙ over_is (came g k)

@@ -19,5 +19,5 @@ pub record Does (p : Polled) (old new : ClientState) (answer : Poll) (out out' :
   pub state : new ≡ after_polled old.last p old
 
 -- the client did what its poll does at its latest moment
-pub record Turned (old new : ClientState) (answer : Poll) (out out' : List ℕ) : Type 0 where
+pub record IsPolled (old new : ClientState) (answer : Poll) (out out' : List ℕ) : Type 0 where
   pub does : Does (poll old old.last) old new answer out out'

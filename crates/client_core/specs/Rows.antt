@@ -4,21 +4,22 @@ use Rattle.cl_types.specs.declared.numbers.CallNo.{CallNo}
 use Rattle.cl_types.specs.declared.call.Call.{Call}
 use Rattle.client_model.specs.Client.{Finished, emptied}
 use Rattle.client_model.specs.Order.{Footprint}
-use Rattle.call_cut.specs.declared.outcome.Outcome.{Outcome}
+use Rattle.call_cut.specs.declared.outcome.PartOutcome.{PartOutcome}
 use Rattle.call_cut.specs.Came.{came}
 use Rattle.call_cut.specs.Taking.{Gathers}
 use Rattle.client_core.specs.declared.ended.Ended.{Ended}
 use Rattle.client_core.specs.Held.{Held, print_of}
+use Rattle.cl_types.specs.declared.limits.TheConstants.{MOST_PARTS}
 
 -- what a row stands for
-abbrev pub held_in : CallNo → Call → List Outcome → ℕ → Held
+abbrev pub held_in : CallNo → Call → List PartOutcome → ℕ → Held
 held_in number k gather sent = record { number = number.0; call = emptied k; came = came gather k; sent = sent }
 
 -- what holds of a row at every moment
-pub record IsRow (k : Call) (gather : List Outcome) (parts sent waiting : ℕ) : Type 0 where
+pub record IsRow (k : Call) (gather : List PartOutcome) (parts sent waiting : ℕ) : Type 0 where
   pub gathers : Gathers gather k
   pub all_parts : parts ≡ length (came gather k)
-  pub few : parts ≤ 65
+  pub few : parts ≤ MOST_PARTS
   pub sent_of_them : sent ≤ parts
   -- how many parts nothing has come of
   pub still_waiting : waiting ≡ count_by is_none (came gather k)

@@ -15,7 +15,7 @@ ghost use Rattle.client_core.specs.Rows.{finished_of};
 ghost use Rattle.client_core.specs.Valid.{AreRising};
 
 use crate::ended::Ended;
-use crate::row::Row;
+use crate::row::CallRow;
 use cl_types::call::Call;
 use cl_types::items::NoMemory;
 use cl_types::limits::HELD_CALLS;
@@ -31,7 +31,7 @@ use std::marker::Model;
 #[derive(Drop)]
 pub struct Calls {
     // Those that have not ended, in order of issue. There is room for `HELD_CALLS`.
-    rows: Vec<Row>,
+    rows: Vec<CallRow>,
     // The others, as they ended. There is room for `HELD_CALLS`.
     ended: VecDeque<Ended>,
     // Which of those that have not ended may go.
@@ -81,7 +81,7 @@ impl Calls {
         ensures ended { self.new.ended ≡ self.old.ended }
     {
         self.order.add(no, &call);
-        self.rows.push_reserved(Row::create(no, call));
+        self.rows.push_reserved(CallRow::create(no, call));
     }
 
     /// Whether the call has not ended and may go.
@@ -207,14 +207,14 @@ impl Calls {
 }
 
 /// Whether a call of this number is among these.
-fn is_held(rows: &[Row], no: CallNo) -> bool
+fn is_held(rows: &[CallRow], no: CallNo) -> bool
     ensures { result ≡ list_any (λ h. h.number == no.0) rows.now }
 {
     rows.iter().any(|row| row.no().0 == no.0)
 }
 
 /// Where the call of this number stands, the first of that number.
-fn row_at(rows: &[Row], no: CallNo) -> usize
+fn row_at(rows: &[CallRow], no: CallNo) -> usize
     requires { is_some (held_at no.0 rows.now) ≡ true }
     ensures within { result < length rows.now }
     ensures there { slice_get rows.now result ≡ held_at no.0 rows.now }
@@ -229,14 +229,14 @@ fn row_at(rows: &[Row], no: CallNo) -> usize
 }
 
 /// The number of the call, where it is a Fence.
-fn fence_number(row: &Row) -> Option<CallNo>
+fn fence_number(row: &CallRow) -> Option<CallNo>
     ensures { result ≡ fence_first_in (row.now ∷ []) }
 {
     if row.is_fence() { Some(row.no()) } else { None }
 }
 
 /// Whether a part of the call may be sent.
-fn may_send_now(row: &Row, order: &Order) -> bool
+fn may_send_now(row: &CallRow, order: &Order) -> bool
     requires { list_any (λ k. k.0 == row.now.number) order.now ≡ true }
     ensures { result ≡ may_send order.now row.now }
 {
@@ -244,7 +244,7 @@ fn may_send_now(row: &Row, order: &Order) -> bool
 }
 
 /// The first part that may be sent.
-fn first_to_send(rows: &[Row], order: &Order) -> Option<Part>
+fn first_to_send(rows: &[CallRow], order: &Order) -> Option<Part>
     requires { order.now ≡ map print_of rows.now }
     ensures { result ≡ part_to_send rows.now }
 {

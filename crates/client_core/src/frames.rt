@@ -11,6 +11,7 @@ ghost use Rattle.client_core.specs.Answers.{frame_bytes};
 ghost use Rattle.client_core.specs.Fields.{IsFit};
 ghost use Rattle.client_core.specs.Held.{request_at};
 ghost use Rattle.client_core.specs.Typed.{is_typed_request};
+ghost use Rattle.cl_types.specs.declared.limits.TheConstants.{FRAME_ROOM};
 
 use crate::calls::Calls;
 use cl_types::call::AtomicOp;
@@ -24,7 +25,7 @@ pub fn write_part(calls: &Calls, part: Part, head: &Head, out: &mut [u8]) -> usi
     requires there { is_some (request_at calls.now.held part) ≡ true }
     requires fits { Each IsFit calls.now.held }
     requires head { IsHead head.now }
-    requires room { 1200 ≤ length out.old }
+    requires room { FRAME_ROOM ≤ length out.old }
     ensures len { (q : Request) → request_at calls.now.held part ≡ Some q
         → result ≡ length (frame_bytes head.now q) }
     ensures bytes { (q : Request) → request_at calls.now.held part ≡ Some q

@@ -1,4 +1,4 @@
-//! `Row`: a call that has not ended, with what came of its parts. A clause sees it as a `Held`.
+//! `CallRow`: a call that has not ended, with what came of its parts. A clause sees it as a `Held`.
 
 ghost use Rattle.std.specs.Prelude.{◌≡◌, ◌+◌, ◌<◌, length, true, None, Some, IfSome, is_some, slice_get};
 ghost use Rattle.cl_types.specs.Requests.{request_of, reply_of};
@@ -21,7 +21,7 @@ use std::marker::Model;
 
 /// A good call that has not ended.
 #[derive(Drop)]
-pub struct Row {
+pub struct CallRow {
     no: CallNo,
     call: Call,
     gather: Gather,
@@ -33,7 +33,7 @@ pub struct Row {
     waiting: u16,
 }
 
-impl Model for Row {
+impl Model for CallRow {
     ghost use Rattle.client_core.specs.Held.{Held};
 
     ghost Value = { Held };
@@ -45,14 +45,14 @@ impl Model for Row {
     ghost invariant = { λ r. IsRow r.call r.gather r.parts r.sent r.waiting };
 }
 
-impl Row {
+impl CallRow {
     /// A good call, of which nothing was sent.
-    pub fn create(no: CallNo, call: Call) -> Row
+    pub fn create(no: CallNo, call: Call) -> CallRow
         requires { first_fault (call_faults call) ≡ None }
         ensures { result ≡ new_held no.0 call }
     {
         let parts = parts(&call);
-        Row {
+        CallRow {
             no,
             call,
             gather: Gather::create(parts),
@@ -144,7 +144,7 @@ impl Row {
         ensures { IfSome (every self.came)
             (λ endings. finished_of result ≡ ended_with self endings) }
     {
-        let Row {
+        let CallRow {
             no,
             mut call,
             mut gather,

@@ -23,7 +23,7 @@ use Rattle.trace_laws.proofs.WindowKept.{one_account}
 use Rattle.world.specs.Follows.{StandsFor, StandsOn, opened}
 use Rattle.transcript_text.specs.Statuses.{HasGoodStatus}
 use Rattle.world.specs.Running.{IsFair, Running, stepped, summed_on}
-use Rattle.world.specs.Worlds.{Stepped, World, step}
+use Rattle.world.specs.Worlds.{Stepped, WorldState, step}
 use Rattle.world.proofs.Beginning.{stands_for_none}
 use Rattle.world.proofs.Follows.{worlds_follow}
 use Rattle.world.proofs.Standing.{stands_next}
@@ -74,7 +74,7 @@ text_begins s done rest served split =
     )
 
 -- the text of one event more
-text_next : (s : Schedule) (done : List (ℕ × Event)) (l : ℕ) (e : Event) (w : World) → StandsOn s.config done l e (step w l e)
+text_next : (s : Schedule) (done : List (ℕ × Event)) (l : ℕ) (e : Event) (w : WorldState) → StandsOn s.config done l e (step w l e)
     → text_of_events s (done ++ (l, e) ∷ []) ≡ text_of_events s done ++ event_text w l e
 unfolding text_of_events event_text
 text_next s done l e w on =
@@ -88,7 +88,7 @@ text_next s done l e w on =
     ∙ sym (append_assoc s.header (flat_map line_text a.lines) (step_text l (step w l e)))
 
 -- the line that an event told
-module _ (w v : World) (l : ℕ) (e : Event) (told : EventLine) (is : stepped told v ≡ step w l e) where
+module _ (w v : WorldState) (l : ℕ) (e : Event) (told : EventLine) (is : stepped told v ≡ step w l e) where
   pub told_good : HasGoodStatus told.did
   told_good = subst (λ (s : Stepped). HasGoodStatus s.did) (sym is) (good_step w l e)
 

@@ -4,7 +4,6 @@ use Rattle.std.specs.Prelude.{◌==◌, IsTrue, if◌then◌else◌}
 use Rattle.cl_outside.specs.Counts.{LastFailed, NoneFailed}
 use Rattle.cl_outside.specs.Told.{Added, Took}
 use Rattle.cl_outside.specs.declared.faults.Faults.{Faults}
-use Rattle.cl_outside.specs.declared.loops.TheConstants.{INPUT_LIMIT}
 use Rattle.cl_types.specs.declared.schedule.Schedule.{Schedule}
 use Rattle.texts.specs.Commands.{command_in}
 use Rattle.texts.specs.Text.{Text}
@@ -16,6 +15,7 @@ use Rattle.clio_cli.specs.Words.{is_built_command}
 use Rattle.clio_cli.specs.declared.status.Status.{Status}
 use Rattle.clio_cli.specs.declared.status.Status.TheVariants as status
 use Rattle.clio_cli.proofs.VerdictLemmas.{IsFinal, closed_status, differs, is_closed, is_refused, is_too_long, long_verdict, no_words, refused_status, replayed, too_long_status}
+use Rattle.cl_types.specs.declared.limits.TheConstants.{INPUT_BYTES}
 
 -- ---- numbers of statuses
 abbrev status_at : ℕ → Status
@@ -129,7 +129,7 @@ gave_verdict given bytes after (inr many) = by after many.taken where
   by (Some rest) taken =
       let whole : bytes ≡ given ++ rest = cc in
       let n : length bytes ≡ length given + length rest = ap length whole ∙ length-append given rest in
-      let count : length given ≡ INPUT_LIMIT + 1 = many.count in
+      let count : length given ≡ INPUT_BYTES + 1 = many.count in
       long_verdict given (omega (arith, count)) ∙ sym (long_verdict bytes (omega (arith, count, n)))
 
 told_verdict : (built : Bool) (bytes : List ℕ) (after : Option (List ℕ)) (v : Verdict) → IsTrue built → WantsBy built (Some bytes) after v → v ≡ verdict bytes

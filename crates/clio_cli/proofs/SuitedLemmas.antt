@@ -4,7 +4,7 @@ use Rattle.std.specs.Prelude.{Result, ◌^◌, ◌==◌, ◌||◌, if◌then◌e
 use Rattle.std.specs.List.{AllByRecursion as Each, list_any}
 use Rattle.std.proofs.lemmas.Bool.Decides.{nat_tests}
 use Rattle.cl_types.specs.declared.config.NodeConfig.{NodeConfig}
-use Rattle.cl_types.specs.declared.limits.TheConstants.{MOST_CLIENTS, PAGE_BYTES}
+use Rattle.cl_types.specs.declared.limits.TheConstants.{INPUT_BYTES, INPUT_LINES, MOST_CLIENTS, PAGE_BYTES}
 use Rattle.cl_types.specs.declared.numbers.Addr.{Addr}
 use Rattle.cl_types.specs.declared.numbers.ClientNo.{ClientNo}
 use Rattle.cl_types.specs.declared.schedule.Event.{Event}
@@ -13,14 +13,13 @@ use Rattle.cl_types.specs.declared.schedule.Schedule.{Schedule}
 use Rattle.cl_types.specs.declared.schedule.What.{What}
 use Rattle.cl_types.specs.declared.schedule.What.TheVariants.{BadLength, ClientExpected, ClientRepeated, TooManyClients}
 use Rattle.frame_model.specs.Faults.{first_fault}
-use Rattle.texts.specs.Grammar.{Fault, Reading, Said, Node, Offload, Client, Happens, at_end, event_faults, is_given, judged_line, judged_said, line_read, nothing_read, place_faults, read_more, said_by_words, said_faults, schedule_from}
+use Rattle.texts.specs.Grammar.{Fault, Reading, Statement, Node, Offload, Client, Happens, at_end, event_faults, is_given, judged_line, judged_said, line_read, nothing_read, place_faults, read_more, said_by_words, said_faults, schedule_from}
 use Rattle.cl_types.specs.Pages.{offset_of}
 use Rattle.cl_types.specs.Ranges.{is_good_address}
 use Rattle.texts.specs.Text.{Text, first_word, is_empty, is_skipped, lines_in, words_in}
 use Rattle.schedule_text.specs.Reading.{too_long_of}
 use Rattle.schedule_text.specs.declared.fault.ScheduleFault.{ScheduleFault}
 use Rattle.schedule_text.specs.declared.fault.ScheduleFault.TheVariants.{TooLong}
-use Rattle.schedule_text.specs.declared.fault.TheConstants.{MOST_BYTES, MOST_LINES}
 use Rattle.lemmas.proofs.Lists.{each_append, each_weaker}
 use Rattle.trace_texts.proofs.ReadSchedules.{IsMeasured, IsSaid, no_ok, ok_is, words_say, later}
 use Rattle.client_model.specs.Apart.{AreApart}
@@ -82,7 +81,7 @@ record Suits (n : ℕ) (r : Reading) : Type 0 where
 few : (n : ℕ) → leb MOST_CLIENTS n ≡ false → n + 1 ≤ MOST_CLIENTS
 few n h = grind (arith, nat_tests)
 
-suits_more : (n : ℕ) (r : Reading) (line : Text) (said : Said) → IsSaid said → first_fault (said_faults r said) ≡ None → Suits n r → Suits (n + 1) (read_more r n line said)
+suits_more : (n : ℕ) (r : Reading) (line : Text) (said : Statement) → IsSaid said → first_fault (said_faults r said) ≡ None → Suits n r → Suits (n + 1) (read_more r n line said)
 suits_more n r line (Node pages buckets ring retry) good none k = record { most = k.most; apart = k.apart; before = later n r.events k.before; fair = k.fair }
 suits_more n r line (Offload o) good none k = record { most = k.most; apart = k.apart; before = later n r.events k.before; fair = k.fair }
 suits_more n r line (Client c pid) good none k =
@@ -102,7 +101,7 @@ suits_skipped : (n : ℕ) (r : Reading) → Suits n r → Suits (n + 1) r
 suits_skipped n r k = record { most = k.most; apart = k.apart; before = later n r.events k.before; fair = k.fair }
 
 module _ (n : ℕ) (r : Reading) (line : Text) (k : Suits n r) where
-  said_suits : (o : Result Said What) (more : Reading) → ((said : Said) → o ≡ Ok said → IsSaid said) → judged_said r n line o ≡ Ok more → Suits (n + 1) more
+  said_suits : (o : Result Statement What) (more : Reading) → ((said : Statement) → o ≡ Ok said → IsSaid said) → judged_said r n line o ≡ Ok more → Suits (n + 1) more
   said_suits (Err what) more good is = absurd (no_ok (n, what) more is)
   said_suits (Ok said) more good is = step (first_fault (said_faults r said)) refl is where
     step : (o : Option What) → first_fault (said_faults r said) ≡ o → ◌≡◌ {A = Result Reading Fault} (elim o [ Some what ↦ Err (n, what) | None ↦ Ok (read_more r n line said) ]) (Ok more) → Suits (n + 1) more
@@ -151,14 +150,14 @@ from_suits (line ∷ lines) n r s k is = step (line_read r n line) refl is (λ m
       subst (λ m. Suited m s) same (rest more (read_suits n r line k more read) is)
 
 -- ---- lines within the limits
-few_lines : (bytes : List ℕ) → too_long_of bytes ≡ None → length (lines_in bytes) ≤ MOST_LINES
-few_lines bytes short = go (nat_lt MOST_BYTES (length bytes)) (nat_lt MOST_LINES (length (lines_in bytes))) refl short where
-  go : (a b : Bool) → nat_lt MOST_LINES (length (lines_in bytes)) ≡ b
-      → ◌≡◌ {A = Option ScheduleFault} (if a then Some (TooLong true (MOST_BYTES + 1)) else if b then Some (TooLong false (MOST_LINES + 1)) else None) None → length (lines_in bytes) ≤ MOST_LINES
+few_lines : (bytes : List ℕ) → too_long_of bytes ≡ None → length (lines_in bytes) ≤ INPUT_LINES
+few_lines bytes short = go (nat_lt INPUT_BYTES (length bytes)) (nat_lt INPUT_LINES (length (lines_in bytes))) refl short where
+  go : (a b : Bool) → nat_lt INPUT_LINES (length (lines_in bytes)) ≡ b
+      → ◌≡◌ {A = Option ScheduleFault} (if a then Some (TooLong true (INPUT_BYTES + 1)) else if b then Some (TooLong false (INPUT_LINES + 1)) else None) None → length (lines_in bytes) ≤ INPUT_LINES
   go true b is none = grind arith
   go false true is none = grind arith
   go false false is none = within (length (lines_in bytes)) is where
-    within : (n : ℕ) → nat_lt MOST_LINES n ≡ false → n ≤ MOST_LINES
+    within : (n : ℕ) → nat_lt INPUT_LINES n ≡ false → n ≤ INPUT_LINES
     within n h = grind (arith, nat_tests)
 
 pub schedules_suited : SchedulesAreSuited

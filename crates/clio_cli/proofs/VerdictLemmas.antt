@@ -9,11 +9,11 @@ use Rattle.cl_types.specs.declared.open_fault.OpenFault.{OpenFault}
 use Rattle.schedule_text.specs.Reading.{too_long_of}
 use Rattle.schedule_text.specs.declared.fault.ScheduleFault.{ScheduleFault}
 use Rattle.schedule_text.specs.declared.fault.ScheduleFault.TheVariants as long
-use Rattle.schedule_text.specs.declared.fault.TheConstants.{MOST_BYTES}
 use Rattle.clio_cli.specs.Status.{number_of}
 use Rattle.clio_cli.specs.Verdict.{Verdict, HasBadNode, IsRefusal, IsRefused, IsReplayable, IsTooLong, bytes_text, verdict, verdict_at_opening, verdict_by, verdict_on_schedule}
 use Rattle.clio_cli.specs.declared.status.Status.{Status}
 use Rattle.clio_cli.specs.declared.status.Status.TheVariants as status
+use Rattle.cl_types.specs.declared.limits.TheConstants.{INPUT_BYTES}
 
 -- ---- the cases of an input
 -- an input is too long, refused, or a schedule whose node opens or doesn't
@@ -129,8 +129,8 @@ is_replayed bytes is = by (case_of bytes) where
   by (Replays s good) = (s, good)
 
 -- the verdict on too many bytes
-pub long_verdict : (bytes : List ℕ) → MOST_BYTES < length bytes → verdict bytes ≡ record { text = bytes_text; status = status.TooLong }
+pub long_verdict : (bytes : List ℕ) → INPUT_BYTES < length bytes → verdict bytes ≡ record { text = bytes_text; status = status.TooLong }
 long_verdict bytes many =
-    let more : nat_lt MOST_BYTES (length bytes) ≡ true = grind (arith, nat_tests) in
-    let told : too_long_of bytes ≡ Some (long.TooLong true (MOST_BYTES + 1)) = rw more refl in
+    let more : nat_lt INPUT_BYTES (length bytes) ≡ true = grind (arith, nat_tests) in
+    let told : too_long_of bytes ≡ Some (long.TooLong true (INPUT_BYTES + 1)) = rw more refl in
     ap (λ o. verdict_by o (schedule_of bytes)) told

@@ -14,7 +14,7 @@ use Rattle.trace_texts.specs.Transcripts.{line_text, transcript}
 use Rattle.trace.specs.Schedules.{IsGood, IsRisingFrom}
 use Rattle.world.specs.Follows.{StandsFor}
 use Rattle.world.specs.Running.{Running}
-use Rattle.world.specs.Worlds.{Stepped, World, step}
+use Rattle.world.specs.Worlds.{Stepped, WorldState, step}
 use Rattle.clio_cli.specs.Gathered.{Gathered}
 use Rattle.clio_cli.specs.Suited.{IsSuited}
 use Rattle.clio_cli.specs.declared.left.Left.{Left}
@@ -27,7 +27,7 @@ abbrev pub step_text : ℕ → Stepped → Text
 step_text number s = numbered_text number (s.did ∷ []) s.ended
 
 -- the line of an event in this world
-unfoldable pub event_text : World → ℕ → Event → Text
+unfoldable pub event_text : WorldState → ℕ → Event → Text
 event_text w number event = step_text number (step w number event)
 
 -- the last line, with the number of entries

@@ -5,7 +5,6 @@ use Rattle.cl_outside.specs.Counts.{LastFailed, NoneFailed}
 use Rattle.cl_outside.specs.Loops.{TookUpTo, WroteFront}
 use Rattle.cl_outside.specs.Told.{Added, Took}
 use Rattle.cl_outside.specs.declared.faults.Faults.{Faults}
-use Rattle.cl_outside.specs.declared.loops.TheConstants.{INPUT_LIMIT}
 use Rattle.cl_types.specs.declared.schedule.Schedule.{Schedule}
 use Rattle.texts.specs.Commands.{command_in}
 use Rattle.texts.specs.Text.{Text}
@@ -15,6 +14,7 @@ use Rattle.clio_cli.specs.Verdict.{Verdict, IsReplayable, bad_words, verdict}
 use Rattle.clio_cli.specs.Words.{is_built_command}
 use Rattle.clio_cli.specs.declared.status.Status.{Status}
 use Rattle.clio_cli.specs.declared.status.Status.TheVariants as status
+use Rattle.cl_types.specs.declared.limits.TheConstants.{INPUT_BYTES}
 
 -- what the source has left and the sink was given, where they tell, and which of their calls failed
 pub record Outside : Type 0 where
@@ -40,7 +40,7 @@ pub record IsInput (bytes : List ℕ) (before after : Option (List ℕ)) : Type 
 
 -- these were taken off the source, and are one more than an input may have
 pub record IsTooMany (bytes : List ℕ) (before after : Option (List ℕ)) : Type 0 where
-  pub count : length bytes ≡ INPUT_LIMIT + 1
+  pub count : length bytes ≡ INPUT_BYTES + 1
   pub taken : Took bytes before after
 
 -- what the source gave: all that it had, or one byte more than an input may have
@@ -71,7 +71,7 @@ Takes words most before after = TakesBy (is_built_command (command_in words)) mo
 -- nothing was written, or a front of what was to be written
 abbrev pub WroteSome : List Text → Outside → Outside → Type 0
 WroteSome words before after =
-    ((after.written ≡ before.written) × Takes words (INPUT_LIMIT + 1) before.left after.left)
+    ((after.written ≡ before.written) × Takes words (INPUT_BYTES + 1) before.left after.left)
     ⊎ ((v : Verdict) × Wants words before.left after.left v × WroteFront v.text before.written after.written)
 
 -- with which status the program ends
@@ -80,7 +80,7 @@ abbrev pub Ends : List Text → Outside → Outside → Status → Type 0
 -- was written
 Ends words before after status.ReadFault =
     IsTrue (is_built_command (command_in words)) × LastFailed before.read_faults after.read_faults × (after.written ≡ before.written)
-    × NoneFailed before.write_faults after.write_faults × TookUpTo INPUT_LIMIT before.left after.left
+    × NoneFailed before.write_faults after.write_faults × TookUpTo INPUT_BYTES before.left after.left
 -- of all writes the last alone failed, no read did, and a front of what was to be written was
 Ends words before after status.WriteFault =
     LastFailed before.write_faults after.write_faults × NoneFailed before.read_faults after.read_faults

@@ -1,7 +1,7 @@
 -- What a world asks of a schedule, and that each one that was read has it.
 use Rattle.std.specs.Prelude.{◌≡◌, ℕ, ◌<◌, ◌≤◌, ◌^◌, List, None, Ok, length}
 use Rattle.std.specs.List.{AllByRecursion as Each}
-use Rattle.cl_types.specs.declared.limits.TheConstants.{MOST_CLIENTS}
+use Rattle.cl_types.specs.declared.limits.TheConstants.{MOST_CLIENTS, LINES_END}
 use Rattle.cl_types.specs.declared.schedule.Event.{Event}
 use Rattle.cl_types.specs.declared.schedule.Schedule.{Schedule}
 use Rattle.texts.specs.Grammar.{schedule_of}
@@ -15,7 +15,7 @@ pub record IsSuited (s : Schedule) : Type 0 where
   pub most : length s.config.clients ≤ MOST_CLIENTS
   pub apart : HaveNumbersApart s.config
   -- no line has a great number
-  pub bounded : Each (λ (e : ℕ × Event). e.0 < 2 ^ 29) s.events
+  pub bounded : Each (λ (e : ℕ × Event). e.0 < LINES_END) s.events
   -- no step of time is long, and what is looked at lies within one page
   pub fair : Each (λ (e : ℕ × Event). IsFair e.1) s.events
 

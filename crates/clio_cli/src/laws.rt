@@ -12,7 +12,7 @@ pub fn headline()
 {}
 
 /// Every schedule that bytes within the limits spell has 1 to 64 clients with numbers of their own,
-/// lines below 2^29, and events with arguments that a world takes.
+/// lines below `LINES_END`, and events with arguments that a world takes.
 pub fn schedules_suit_worlds()
     ensures { SchedulesAreSuited }
 {}

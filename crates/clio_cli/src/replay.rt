@@ -10,6 +10,7 @@ ghost use Rattle.world.specs.Running.{IsFair, summed_on};
 ghost use Rattle.world.specs.Worlds.{step};
 ghost use Rattle.clio_cli.specs.Gathered.{CountsCut, Gathered};
 ghost use Rattle.clio_cli.specs.Replay.{After, IsServed, Plays, end_text, event_text, history_text};
+ghost use Rattle.cl_types.specs.declared.limits.TheConstants.{LINES_END};
 
 use crate::gather::{Cut, let_go, pass_on};
 use crate::left::Left;
@@ -32,7 +33,7 @@ fn happen(
     held: &mut Bytes,
 ) -> Result<(), NoMemory>
     requires later { world.old.line < number }
-    requires bounded { number < 2 ^ 29 }
+    requires bounded { number < LINES_END }
     requires fair { IsFair event.now }
     ensures printed { OnOk result
         (held.new ≡ held.old ++ event_text world.old.world number event.now) }
@@ -57,7 +58,7 @@ fn print_event<K: Sink>(
     sink: &mut K,
 ) -> Result<(), Cut>
     requires later { world.old.line < number }
-    requires bounded { number < 2 ^ 29 }
+    requires bounded { number < LINES_END }
     requires fair { IsFair event.now }
     ensures printed { OnOk result (Gathered
         (held.old ++ event_text world.old.world number event.now) held.new

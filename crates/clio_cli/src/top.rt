@@ -13,8 +13,9 @@ use crate::left::Left;
 use crate::replay::play;
 use crate::status::Status;
 use crate::words::Words;
-use cl_outside::{INPUT_LIMIT, Sink, Source, Stop, read_input, write_all};
+use cl_outside::{Sink, Source, Stop, read_input, write_all};
 use cl_types::items::NoMemory;
+use cl_types::limits::INPUT_BYTES;
 use std::alloc::Global;
 
 /// Why nothing is to be written.
@@ -41,14 +42,14 @@ impl From<NoMemory> for Halt {
 fn asked<S: Source>(alloc: Global, source: &mut S) -> Result<Wanted, Halt>
     ensures asked { IfOk result (AsksOf (S.left source.old) (S.left source.new)) }
     ensures counted { CountsHalt (S.faults source.old) (S.faults source.new) result }
-    ensures taken { TookUpTo (INPUT_LIMIT + 1) (S.left source.old) (S.left source.new) }
+    ensures taken { TookUpTo (INPUT_BYTES + 1) (S.left source.old) (S.left source.new) }
     ensures within { IsErrOf result Halt.ReadFault
-        → TookUpTo INPUT_LIMIT (S.left source.old) (S.left source.new) }
+        → TookUpTo INPUT_BYTES (S.left source.old) (S.left source.new) }
 {
     match read_input(alloc, source) {
         Ok(bytes) => Ok(judge(alloc, &bytes)?),
         Err(Stop::ReadFault) => Err(Halt::ReadFault),
-        Err(Stop::TooLong) => Ok(Wanted::Told(too_many(alloc, true, INPUT_LIMIT as u32 + 1)?)),
+        Err(Stop::TooLong) => Ok(Wanted::Told(too_many(alloc, true, INPUT_BYTES as u32 + 1)?)),
         Err(Stop::NoMemory) => Err(Halt::NoMemory),
         Err(Stop::WriteFault) => unreachable!(),
     }
@@ -60,9 +61,9 @@ fn wanted<S: Source>(alloc: Global, words: &Words, source: &mut S) -> Result<Wan
     ensures counted { CountsHalt (S.faults source.old) (S.faults source.new) result }
     ensures fault { IsErrOf result Halt.ReadFault
         → IsTrue (is_built_command (command_in words.now)) }
-    ensures taken { Takes words.now (INPUT_LIMIT + 1) (S.left source.old) (S.left source.new) }
+    ensures taken { Takes words.now (INPUT_BYTES + 1) (S.left source.old) (S.left source.new) }
     ensures within { IsErrOf result Halt.ReadFault
-        → TookUpTo INPUT_LIMIT (S.left source.old) (S.left source.new) }
+        → TookUpTo INPUT_BYTES (S.left source.old) (S.left source.new) }
 {
     if !words.are_built() {
         return Ok(Wanted::Told(output_of(alloc, b"bad words\n", Status::BadWords)?));

@@ -27,7 +27,7 @@ use Rattle.range_alloc.proofs.Entries.{entry-with}
 use Rattle.translate_cache.specs.Cached.{Cached}
 use Rattle.data_path.specs.declared.store.PageStore.{PageStore}
 use Rattle.data_path.specs.Store.{held_places, no_entries}
-use Rattle.data_path.specs.Laying.{Row, rows_of, spanned, rows_from, numbered, IsBehind, IsLaid}
+use Rattle.data_path.specs.Laying.{SpannedPage, rows_of, spanned, rows_from, numbered, IsBehind, IsLaid}
 use Rattle.flat_model.proofs.FitLemmas.{range_next}
 use Rattle.page_pool.proofs.Filling.{range_append}
 
@@ -60,7 +60,7 @@ places_next space start i =
     ∙ ap (λ n. places_of space start i ++ (space, start + i) ∷ places_of space (start + (i + 1)) n) (let e : (i + 1) - (i + 1) ≡ 0 = omega arith in e)
 
 -- ---- rows
-pub rows-numbered : (frame : ℕ) (rows : List Row) → rows_of (numbered frame rows) ≡ rows
+pub rows-numbered : (frame : ℕ) (rows : List SpannedPage) → rows_of (numbered frame rows) ≡ rows
 rows-numbered frame [] = refl
 rows-numbered frame (row ∷ rows) = ap (λ l. row ∷ l) (rows-numbered (frame + 1) rows)
 
@@ -87,10 +87,10 @@ keys-rows_from k (n ∷ spaces) =
     ∙ (λ i. keys-spanned n (places_of (65280 + k) 1 n) i ++ keys-rows_from (k + 1) spaces i)
 
 -- a page and its frame
-abbrev pub entry_for : ℕ → Row → Place × Pte
+abbrev pub entry_for : ℕ → SpannedPage → Place × Pte
 entry_for frame row = (row.0, record { frame = Some (record { 0 = frame }); perm = ReadWrite; span = row.1 })
 
-numbered-push : (frame : ℕ) (rows : List Row) (row : Row) → numbered frame (rows ++ row ∷ []) ≡ numbered frame rows ++ entry_for (frame + length rows) row ∷ []
+numbered-push : (frame : ℕ) (rows : List SpannedPage) (row : SpannedPage) → numbered frame (rows ++ row ∷ []) ≡ numbered frame rows ++ entry_for (frame + length rows) row ∷ []
 numbered-push frame [] row = ap (λ n. entry_for n row ∷ []) (let e : frame ≡ frame + 0 = omega arith in e)
 numbered-push frame (r ∷ rows) row =
     ap (λ l. entry_for frame r ∷ l) (numbered-push (frame + 1) rows row ∙ ap (λ n. numbered (frame + 1) rows ++ entry_for n row ∷ []) (let e : (frame + 1) + length rows ≡ frame + suc (length rows) = omega arith in e))
@@ -302,7 +302,7 @@ module _ (s : PageStore) (spaces : List ℕ) (space n i : ℕ) where
         let count : length (keys s.table.entries) ≡ length s.table.entries = length-map s.table.entries (λ (e : Place × Pte). e.0) in
         omega (arith, enough, same, count, ap length all_places, length-append (keys s.table.entries) ((space, i + 1) ∷ rest))
 
-    pub rows_next : (new : List Row) (span : ℕ) → span ≡ (if i == 0 then n else 0) → new ≡ rows_of s.table.entries ++ ((space, i + 1), span) ∷ []
+    pub rows_next : (new : List SpannedPage) (span : ℕ) → span ≡ (if i == 0 then n else 0) → new ≡ rows_of s.table.entries ++ ((space, i + 1), span) ∷ []
         → new ≡ rows_from 0 spaces ++ spanned n (places_of space 1 (i + 1))
     rows_next new span first is =
         is ∙ ap (λ l. l ++ ((space, i + 1), span) ∷ []) b.rows
@@ -310,7 +310,7 @@ module _ (s : PageStore) (spaces : List ℕ) (space n i : ℕ) where
         ∙ ap (λ l. rows_from 0 spaces ++ l) (spanned-next n space i span first)
 
 -- the pages of one offload more are mapped
-pub rows_all : (spaces new : List ℕ) (space n i : ℕ) (rows : List Row) → i ≡ n → space ≡ 65280 + length spaces → new ≡ spaces ++ n ∷ [] → rows ≡ rows_from 0 spaces ++ spanned n (places_of space 1 i) → rows ≡ rows_from 0 new
+pub rows_all : (spaces new : List ℕ) (space n i : ℕ) (rows : List SpannedPage) → i ≡ n → space ≡ 65280 + length spaces → new ≡ spaces ++ n ∷ [] → rows ≡ rows_from 0 spaces ++ spanned n (places_of space 1 i) → rows ≡ rows_from 0 new
 rows_all spaces new space n i rows all there is mapped =
     mapped ∙ (λ k. rows_from 0 spaces ++ spanned n (places_of ((let e : space ≡ 65280 + (0 + length spaces) = omega (arith, there) in e) k) 1 (all k)))
     ∙ sym (rows-more 0 spaces n) ∙ ap (rows_from 0) (sym is)

@@ -10,7 +10,7 @@ use Rattle.std.proofs.lemmas.List.Elements.{filter-append}
 use Rattle.cl_types.specs.declared.numbers.PageNo.{PageNo}
 use Rattle.cl_types.specs.declared.page.Pte.{Pte}
 use Rattle.cl_types.specs.Bytes.{bytes_at, with_bytes, zeros}
-use Rattle.cl_types.specs.Places.{Place, place_cmp, is_process}
+use Rattle.cl_types.specs.Places.{Place, place_cmp, is_process, space_no}
 use Rattle.cl_types.specs.Spaces.{IsInOnePage}
 use Rattle.cl_types.proofs.PlaceLemmas.{place_total, place_exact, same_place, same_place-self, split_place}
 use Rattle.hash_buckets.specs.PageMap.{entry_of}
@@ -20,7 +20,7 @@ use Rattle.flat_model.specs.State.{FlatState, Page, page_at, bytes_of, places_of
 use Rattle.flat_model.specs.Step.{written}
 use Rattle.range_alloc.proofs.Entries.{sorted_table}
 use Rattle.data_path.specs.declared.store.PageStore.{PageStore}
-use Rattle.data_path.specs.Store.{page_in, pages_in, memory_of, held_places, IsWhole, space_no}
+use Rattle.data_path.specs.Store.{page_in, pages_in, memory_of, held_places, IsWhole}
 use Rattle.data_path.specs.Spaces.{bytes_or_none, bytes_from, contents_of, page_count, IsHonest}
 use Rattle.data_path.proofs.Accesses.{page_there, bytes_framed}
 use Rattle.data_path.proofs.Framing.{frame_named}

@@ -31,19 +31,19 @@ use Rattle.translate_cache.specs.Cached.{Cached, is_place}
 use Rattle.translate_cache.specs.Cached.{entry_of as cached_entry}
 use Rattle.data_path.specs.declared.store.PageStore.{PageStore}
 use Rattle.data_path.specs.Store.{pages_in, spans_in, backed, held_places, flat_of, memory_of, IsFit, IsWhole}
-use Rattle.data_path.specs.Laying.{Row, rows_of, spanned, rows_from, numbered, IsLaid}
+use Rattle.data_path.specs.Laying.{SpannedPage, rows_of, spanned, rows_from, numbered, IsLaid}
 use Rattle.data_path.specs.Opened.{zeroed_page, ranges_from, opened_memory}
 use Rattle.data_path.proofs.Laying.{entry_for, keys-rows, keys-rows_from, has-range}
 use Rattle.flat_model.proofs.FreshLemmas.{length_fresh}
 
 -- ---- frames by their numbers
 -- the frame of a page tells its row
-pub record NamedRow (first : ℕ) (rows : List Row) (place : Place) (frame : ℕ) : Type 0 where
+pub record NamedRow (first : ℕ) (rows : List SpannedPage) (place : Place) (frame : ℕ) : Type 0 where
   pub low : first ≤ frame
   pub below : frame < first + length rows
   pub at : slice_get (keys rows) (frame - first) ≡ Some place
 
-named_row : (first : ℕ) (rows : List Row) (q : Place) (frame : ℕ) → frame_in (find place_cmp q (numbered first rows)) ≡ Some frame → NamedRow first rows q frame
+named_row : (first : ℕ) (rows : List SpannedPage) (q : Place) (frame : ℕ) → frame_in (find place_cmp q (numbered first rows)) ≡ Some frame → NamedRow first rows q frame
 named_row first [] q frame named = absurd cc
 named_row first (row ∷ rows) q frame named = elim (cases_Bool (same_place q row.0)) [
   | inl t ↦
@@ -63,7 +63,7 @@ named_row first (row ∷ rows) q frame named = elim (cases_Bool (same_place q ro
       }
 ]
 
-has_frame : (first : ℕ) (rows : List Row) (q : Place) (pte : Pte) → find place_cmp q (numbered first rows) ≡ Some pte → is_some pte.frame ≡ true
+has_frame : (first : ℕ) (rows : List SpannedPage) (q : Place) (pte : Pte) → find place_cmp q (numbered first rows) ≡ Some pte → is_some pte.frame ≡ true
 has_frame first [] q pte there = absurd cc
 has_frame first (row ∷ rows) q pte there = elim (cases_Bool (same_place q row.0)) [
   | inl t ↦
@@ -73,7 +73,7 @@ has_frame first (row ∷ rows) q pte there = elim (cases_Bool (same_place q row.
   | inr f ↦ has_frame (first + 1) rows q pte (rw f at there)
 ]
 
-backed-numbered : (first : ℕ) (rows : List Row) → backed (numbered first rows) ≡ length rows
+backed-numbered : (first : ℕ) (rows : List SpannedPage) → backed (numbered first rows) ≡ length rows
 backed-numbered first [] = refl
 backed-numbered first (row ∷ rows) = omega (arith, backed-numbered (first + 1) rows)
 
@@ -81,15 +81,15 @@ backed-numbered first (row ∷ rows) = omega (arith, backed-numbered (first + 1)
 abbrev value_of : Option ℕ → ℕ
 value_of o = elim o [ None ↦ 0 | Some n ↦ n ]
 
-span-numbered : (first : ℕ) (rows : List Row) (q : Place) → span_in (find place_cmp q (numbered first rows)) ≡ value_of (find place_cmp q rows)
+span-numbered : (first : ℕ) (rows : List SpannedPage) (q : Place) → span_in (find place_cmp q (numbered first rows)) ≡ value_of (find place_cmp q rows)
 span-numbered first [] q = refl
 span-numbered first (row ∷ rows) q = elim (cases_Bool (same_place q row.0)) [ inl t ↦ rw t refl | inr f ↦ rw f (span-numbered (first + 1) rows q) ]
 
-some-numbered : (first : ℕ) (rows : List Row) (q : Place) → is_some (find place_cmp q (numbered first rows)) ≡ is_some (find place_cmp q rows)
+some-numbered : (first : ℕ) (rows : List SpannedPage) (q : Place) → is_some (find place_cmp q (numbered first rows)) ≡ is_some (find place_cmp q rows)
 some-numbered first [] q = refl
 some-numbered first (row ∷ rows) q = elim (cases_Bool (same_place q row.0)) [ inl t ↦ rw t refl | inr f ↦ rw f (some-numbered (first + 1) rows q) ]
 
-find-both : (xs ys : List Row) (q : Place) → find place_cmp q (xs ++ ys) ≡ option_or (find place_cmp q xs) (find place_cmp q ys)
+find-both : (xs ys : List SpannedPage) (q : Place) → find place_cmp q (xs ++ ys) ≡ option_or (find place_cmp q xs) (find place_cmp q ys)
 find-both [] ys q = refl
 find-both (x ∷ xs) ys q = elim (cases_Bool (same_place q x.0)) [ inl t ↦ rw t refl | inr f ↦ rw f (find-both xs ys q) ]
 
@@ -289,7 +289,7 @@ flat_opened c =
     }
 
 -- ---- what the entries mean
-pages-numbered : (arena : List (List ℕ)) (first : ℕ) (rows : List Row) → ((frame : ℕ) → first ≤ frame → frame < first + length rows → arena_page arena frame ≡ fresh_bytes)
+pages-numbered : (arena : List (List ℕ)) (first : ℕ) (rows : List SpannedPage) → ((frame : ℕ) → first ≤ frame → frame < first + length rows → arena_page arena frame ≡ fresh_bytes)
     → pages_in arena (numbered first rows) ≡ map (λ (place : Place). (place, zeroed_page)) (keys rows)
 pages-numbered arena first [] zeros = refl
 pages-numbered arena first (row ∷ rows) zeros =
@@ -298,15 +298,15 @@ pages-numbered arena first (row ∷ rows) zeros =
     λ i. (row.0, record { perm = ReadWrite; bytes = Some (here i) }) ∷ rest i
 
 -- the rows that begin a range
-abbrev spans_of : List Row → List Row
+abbrev spans_of : List SpannedPage → List SpannedPage
 spans_of [] = []
 spans_of (row ∷ rows) = if row.1 == 0 then spans_of rows else row ∷ spans_of rows
 
-spans-numbered : (first : ℕ) (rows : List Row) → spans_in (numbered first rows) ≡ spans_of rows
+spans-numbered : (first : ℕ) (rows : List SpannedPage) → spans_in (numbered first rows) ≡ spans_of rows
 spans-numbered first [] = refl
 spans-numbered first (row ∷ rows) = elim (cases_Bool (row.1 == 0)) [ inl t ↦ rw t (spans-numbered (first + 1) rows) | inr f ↦ rw f (ap (λ l. row ∷ l) (spans-numbered (first + 1) rows)) ]
 
-spans-both : (xs ys : List Row) → spans_of (xs ++ ys) ≡ spans_of xs ++ spans_of ys
+spans-both : (xs ys : List SpannedPage) → spans_of (xs ++ ys) ≡ spans_of xs ++ spans_of ys
 spans-both [] ys = refl
 spans-both (x ∷ xs) ys = elim (cases_Bool (x.1 == 0)) [ inl t ↦ rw t (spans-both xs ys) | inr f ↦ rw f (ap (λ l. x ∷ l) (spans-both xs ys)) ]
 

@@ -13,7 +13,7 @@ use Rattle.hash_buckets.specs.PageMap.{entry_of, with_entry}
 use Rattle.page_arena.specs.Arena.{page_at as arena_page}
 use Rattle.cl_types.specs.Pages.{page_of, offset_of}
 use Rattle.flat_model.specs.State.{FlatState, Page, bytes_of}
-use Rattle.flat_model.specs.Step.{Outcome, refused, on_page, on_bytes, is_out_of_pages, may_read, may_write, may_change, written}
+use Rattle.flat_model.specs.Step.{Transition, refused, on_page, on_bytes, is_out_of_pages, may_read, may_write, may_change, written}
 use Rattle.data_path.specs.declared.need.Need.{Need}
 use Rattle.data_path.specs.declared.need.Need.TheVariants.{Read, Write, Change}
 use Rattle.data_path.specs.declared.store.PageStore.{PageStore}
@@ -38,16 +38,16 @@ reply_in reply (Err refusal) = Refused refusal
 
 -- the machine refuses the page for this reason, whatever is to be done with it
 abbrev pub IsDenied : FlatState → ℕ → Addr → (Perm → Bool) → Refusal → Type 0
-IsDenied s pid addr may refusal = (go : Page → Outcome) → on_page s pid addr may go ≡ refused s refusal
+IsDenied s pid addr may refusal = (go : Page → Transition) → on_page s pid addr may go ≡ refused s refusal
 
 -- the machine refuses the page's bytes for this reason, whatever is to be done with them
 abbrev pub IsClosed : FlatState → ℕ → Addr → (Perm → Bool) → Refusal → Type 0
-IsClosed s pid addr may refusal = (go : Page → Outcome) → on_bytes s pid addr may go ≡ refused s refusal
+IsClosed s pid addr may refusal = (go : Page → Transition) → on_bytes s pid addr may go ≡ refused s refusal
 
 -- the entry is that of the address's page, and its permission is enough
 pub record IsFound (s : PageStore) (space : ℕ) (addr : Addr) (may : Perm → Bool) (pte : Pte) : Type 0 where
   pub entry : entry_of s.table (space, page_of addr) ≡ Some pte
-  pub passes : (go : Page → Outcome) → on_page (memory_of s) space addr may go ≡ go (page_in s.arena pte)
+  pub passes : (go : Page → Transition) → on_page (memory_of s) space addr may go ≡ go (page_in s.arena pte)
 
 -- the page of the entry has this frame, and is fresh no more
 pub record IsFramed (old new : PageStore) (place : Place) (pte : Pte) (frame : PageNo) : Type 0 where
@@ -59,7 +59,7 @@ pub record IsFramed (old new : PageStore) (place : Place) (pte : Pte) (frame : P
 -- the machine gives the bytes of the address's page, and they lie in this frame
 pub record IsOpen (old new : PageStore) (space : ℕ) (addr : Addr) (may : Perm → Bool) (frame : PageNo) : Type 0 where
   pub page : Page
-  pub passes : (go : Page → Outcome) → on_bytes (memory_of old) space addr may go ≡ go page
+  pub passes : (go : Page → Transition) → on_bytes (memory_of old) space addr may go ≡ go page
   pub entry : Pte
   pub found : entry_of new.table (space, page_of addr) ≡ Some entry
   pub framed : entry.frame ≡ Some frame

@@ -6,34 +6,34 @@ use Rattle.cl_types.specs.declared.call.Perm.TheVariants.{ReadWrite}
 use Rattle.cl_types.specs.declared.limits.TheConstants.{SPACE_PAGES}
 use Rattle.cl_types.specs.declared.page.Pte.{Pte}
 use Rattle.cl_types.specs.Bytes.{fresh_bytes}
-use Rattle.cl_types.specs.Places.{Place, place_cmp}
+use Rattle.cl_types.specs.Places.{Place, place_cmp, space_no}
 use Rattle.hash_buckets.specs.PageMap.{entry_of, IsValid}
 use Rattle.page_arena.specs.Arena.{page_at}
 use Rattle.page_pool.specs.PoolPages.{free_list, AreZero, IsReady}
 use Rattle.flat_model.specs.State.{places_of}
 use Rattle.data_path.specs.declared.store.PageStore.{PageStore}
-use Rattle.data_path.specs.Store.{no_entries, space_no}
+use Rattle.data_path.specs.Store.{no_entries}
 
 -- a page, and the number of pages of the range that begins there, 0 where none does
-abbrev pub Row : Type 0
-Row = Place × ℕ
+abbrev pub SpannedPage : Type 0
+SpannedPage = Place × ℕ
 
 -- the rows of entries
-abbrev pub rows_of : List (Place × Pte) → List Row
+abbrev pub rows_of : List (Place × Pte) → List SpannedPage
 rows_of entries = map (λ entry. (entry.0, entry.1.span)) entries
 
 -- the rows of a range: its first page has the span
-abbrev pub spanned : ℕ → List Place → List Row
+abbrev pub spanned : ℕ → List Place → List SpannedPage
 spanned span [] = []
 spanned span (place ∷ places) = (place, span) ∷ spanned 0 places
 
 -- the rows of offload k, and of those behind it, which have so many pages
-abbrev pub rows_from : ℕ → List ℕ → List Row
+abbrev pub rows_from : ℕ → List ℕ → List SpannedPage
 rows_from k [] = []
 rows_from k (pages ∷ spaces) = spanned pages (places_of (space_no k) 1 pages) ++ rows_from (k + 1) spaces
 
 -- the entries of rows whose pages may be read and written, and have the frames from this one on
-abbrev pub numbered : ℕ → List Row → List (Place × Pte)
+abbrev pub numbered : ℕ → List SpannedPage → List (Place × Pte)
 numbered frame [] = []
 numbered frame (row ∷ rows) =
     (row.0, record { frame = Some (record { 0 = frame }); perm = ReadWrite; span = row.1 }) ∷ numbered (frame + 1) rows

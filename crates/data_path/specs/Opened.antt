@@ -5,9 +5,8 @@ use Rattle.cl_types.specs.declared.config.NodeConfig.{NodeConfig}
 use Rattle.cl_types.specs.declared.config.OffloadConfig.{OffloadConfig}
 use Rattle.cl_types.specs.Bytes.{fresh_bytes}
 use Rattle.cl_types.specs.Config.{offload_pages}
-use Rattle.cl_types.specs.Places.{Place}
+use Rattle.cl_types.specs.Places.{Place, space_no}
 use Rattle.flat_model.specs.State.{FlatState, Page, held_from}
-use Rattle.data_path.specs.Store.{space_no}
 
 -- a page that may be read and written, and has a frame of zeros
 abbrev pub zeroed_page : Page

@@ -6,13 +6,13 @@ use Rattle.std.specs.Borrow.{MutBor}
 use base.Fml.{GName}
 use Rattle.cl_types.specs.declared.limits.TheConstants.{PAGE_BYTES}
 use Rattle.cl_types.specs.Bytes.{over, zeros}
-use Rattle.cl_types.specs.Places.{Place, place_cmp}
+use Rattle.cl_types.specs.Places.{Place, place_cmp, space_no}
 use Rattle.hash_buckets.specs.PageMap.{PageMap}
 use Rattle.page_pool.specs.PoolPages.{PoolPages, IsReady}
 use Rattle.translate_cache.specs.Cached.{Cached}
 use Rattle.flat_model.specs.State.{FlatState, Page, bytes_of, page_at}
 use Rattle.data_path.specs.declared.store.PageStore.{PageStore}
-use Rattle.data_path.specs.Store.{IsWhole, memory_of, space_no}
+use Rattle.data_path.specs.Store.{IsWhole, memory_of}
 
 -- the bytes of a page that is mapped
 abbrev pub bytes_or_none : Option Page → List ℕ

@@ -3,7 +3,7 @@ use Rattle.std.specs.Prelude.{◌≡◌, ℕ, ◌+◌, ◌==◌, false, not, Lis
 use Rattle.std.specs.FinMap.Entries.{where_key}
 use Rattle.cl_types.specs.declared.limits.TheConstants.{PAGE_BYTES}
 use Rattle.cl_types.specs.declared.page.Pte.{Pte}
-use Rattle.cl_types.specs.Places.{Place, place_cmp, is_process}
+use Rattle.cl_types.specs.Places.{Place, place_cmp, is_process, space_no}
 use Rattle.hash_buckets.specs.PageMap.{PageMap, entry_of, IsValid}
 use Rattle.page_arena.specs.Arena.{page_at as arena_page}
 use Rattle.page_pool.specs.PoolPages.{free_pages, AreZero}
@@ -62,10 +62,6 @@ no_entries = record { entries = []; capacity = CACHED_ENTRIES }
 abbrev pub backed : List (Place × Pte) → ℕ
 backed [] = 0
 backed (entry ∷ entries) = (if is_some entry.1.frame then 1 else 0) + backed entries
-
--- the number of an offload's space
-abbrev pub space_no : ℕ → ℕ
-space_no k = 65280 + k
 
 -- the pages of offload k, and of those behind it, which have so many
 abbrev pub held_places : ℕ → List ℕ → List Place

@@ -4,7 +4,7 @@ ghost use Rattle.std.specs.Prelude.{◌≡◌, ◌+◌, ◌/◌, ◌<◌, length
 ghost use Rattle.cl_types.specs.declared.limits.TheConstants.{PAGE_BYTES};
 ghost use Rattle.hash_buckets.specs.PageMap.{entry_of};
 ghost use Rattle.range_alloc.specs.Ranges.{frame_at};
-ghost use Rattle.data_path.specs.Store.{space_no};
+ghost use Rattle.cl_types.specs.Places.{space_no};
 
 use crate::store::PageStore;
 use cl_types::limits::PAGE_BYTES;

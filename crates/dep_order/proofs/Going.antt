@@ -8,7 +8,7 @@ use Rattle.dep_order.specs.Calls.{number_of}
 use Rattle.dep_order.specs.Rows.{pages_of, print_of}
 use Rattle.dep_order.specs.WaitLists.{row_at, place_of, number_list, offload_list, page_list, Stands, is_awaited, wanted_at}
 use Rattle.dep_order.specs.Fields.{print_at, calls_of, IsSound}
-use Rattle.dep_order.specs.declared.row.Row.{Row}
+use Rattle.dep_order.specs.declared.row.WaitRow.{WaitRow}
 use Rattle.dep_order.specs.declared.walk.Wanted.TheVariants.{Number, AwaitedBy}
 use Rattle.dep_order.proofs.Overlaps.{overlap}
 use Rattle.dep_order.proofs.Mapped.{all_from, all_broken, any_none, any_one, find_at, this_sought, none_sought}
@@ -45,14 +45,14 @@ fence_stays (j ∷ ks) k fence h = elim (cases_Bool (nat_lt j.0 k.0)) [
     or_true true = refl
     or_true false = refl
 
-module _ {rows : List Row} {places waits : NodeLists} (s : IsSound rows places waits) where
+module _ {rows : List WaitRow} {places waits : NodeLists} (s : IsSound rows places waits) where
   -- ---- waiting
   -- a row waits for one that stands in a list
-  pub waits_for_one : (row : Row) (list node : ℕ) → IsIn waits list node → wanted_at rows (AwaitedBy row) node ≡ true → may_go (calls_of rows places) (print_of row) ≡ false
+  pub waits_for_one : (row : WaitRow) (list node : ℕ) → IsIn waits list node → wanted_at rows (AwaitedBy row) node ≡ true → may_go (calls_of rows places) (print_of row) ≡ false
   waits_for_one row list node there t = all_broken (print_at rows) _ (list_at places 0) (place_of node) (s.used list node there) (not_from_true (is_awaited (row_at rows (place_of node)) row) t)
 
   -- and for no other, but where it is of a Fence
-  module _ (row : Row) (none : (list node : ℕ) → IsIn waits list node → (list ≡ 1280) → wanted_at rows (AwaitedBy row) node ≡ false)
+  module _ (row : WaitRow) (none : (list node : ℕ) → IsIn waits list node → (list ≡ 1280) → wanted_at rows (AwaitedBy row) node ≡ false)
       (none_of : (number : ℕ) (odd : Bool) (node : ℕ) → row.offload ≡ Some (number, odd) → IsIn waits (offload_list number) node → wanted_at rows (AwaitedBy row) node ≡ false)
       (none_at : (page node : ℕ) → row.pages.from ≤ page → page < row.pages.end → IsIn waits (page_list page) node → wanted_at rows (AwaitedBy row) node ≡ false)
       (no_fence : row.fence ≡ false) where
@@ -61,7 +61,7 @@ module _ {rows : List Row} {places waits : NodeLists} (s : IsSound rows places w
 
     page_unawaited : (place : ℕ) → IsIn places 0 place → share_page (pages_of (row_at rows place).pages) (pages_of row.pages) ≡ true → is_awaited (row_at rows place) row ≡ false
     page_unawaited place held share =
-        let other : Row = row_at rows place in
+        let other : WaitRow = row_at rows place in
         let page : ℕ = max other.pages.from row.pages.from in
         let both : page < min other.pages.end row.pages.end = ltb-true _ _ (sym (overlap other.pages.from other.pages.end row.pages.from row.pages.end) ∙ share) in
         let stands = (s.stands place held).by_page page (omega arith) (omega arith) in
@@ -77,7 +77,7 @@ module _ {rows : List Row} {places waits : NodeLists} (s : IsSound rows places w
     each_unawaited place held = elim (cases_Bool (is_awaited (row_at rows place) row)) [
       | inr f ↦ f
       | inl t ↦
-          let other : Row = row_at rows place in
+          let other : WaitRow = row_at rows place in
           let a : Footprint = (print_of other).1 in
           let b : Footprint = (print_of row).1 in
           let both = and_parts (nat_lt other.no.0 row.no.0) (waits_for a b) t in
@@ -127,7 +127,7 @@ module _ {rows : List Row} {places waits : NodeLists} (s : IsSound rows places w
 
   -- ---- what the walks of an order give
   -- the rows are seen at a slice of them, and the calls as a contract sees them
-  module _ (seen : List Row) (same : seen ≡ rows) {calls : List (ℕ × Footprint)} (view : calls_of rows places ≡ calls) where
+  module _ (seen : List WaitRow) (same : seen ≡ rows) {calls : List (ℕ × Footprint)} (view : calls_of rows places ≡ calls) where
     sought : (number : ℕ) (o : Option ℕ) → o ≡ option_map place_of (find (wanted_at seen (Number (record { 0 = number }))) (list_at waits (number_list number)))
         → o ≡ option_map place_of (find (wanted_at rows (Number (record { 0 = number }))) (list_at waits (number_list number)))
     sought number o e = e ∙ ap (λ rs. option_map place_of (find (wanted_at rs (Number (record { 0 = number }))) (list_at waits (number_list number)))) same
@@ -152,19 +152,19 @@ module _ {rows : List Row} {places waits : NodeLists} (s : IsSound rows places w
     found_ready number place held its = rw (← view) (sym (ready_there number place held its))
 
     -- a row that waits at a list
-    pub some_awaited : (row : Row) (list node : ℕ) → IsIn waits list node → wanted_at seen (AwaitedBy row) node ≡ true → true ≡ not (may_go calls (print_of row))
+    pub some_awaited : (row : WaitRow) (list node : ℕ) → IsIn waits list node → wanted_at seen (AwaitedBy row) node ≡ true → true ≡ not (may_go calls (print_of row))
     some_awaited row list node there t = sym (ap not (ap (λ ks. may_go ks (print_of row)) (sym view) ∙ waits_for_one row list node there (ap (λ rs. wanted_at rs (AwaitedBy row) node) (sym same) ∙ t)))
 
   -- a row that waits at none
-  pub none_awaited : {calls : List (ℕ × Footprint)} → calls_of rows places ≡ calls → (row : Row) → may_go (calls_of rows places) (print_of row) ≡ true → false ≡ not (may_go calls (print_of row))
+  pub none_awaited : {calls : List (ℕ × Footprint)} → calls_of rows places ≡ calls → (row : WaitRow) → may_go (calls_of rows places) (print_of row) ≡ true → false ≡ not (may_go calls (print_of row))
   none_awaited view row t = sym (ap not (ap (λ ks. may_go ks (print_of row)) (sym view) ∙ t))
 
 -- the call at the place goes, and has a number from this one on
-abbrev pub goes_from : List Row → NodeLists → ℕ → ℕ → Bool
+abbrev pub goes_from : List WaitRow → NodeLists → ℕ → ℕ → Bool
 goes_from rows places from place = leb from (row_at rows place).no.0 && may_go (calls_of rows places) (print_at rows place)
 
 -- what a walk to the first such place finds
-pub first_from : (rows : List Row) (places : NodeLists) {calls : List (ℕ × Footprint)} → calls_of rows places ≡ calls → (from : ℕ) (o : Option ℕ) → find (goes_from rows places from) (list_at places 0) ≡ o
+pub first_from : (rows : List WaitRow) (places : NodeLists) {calls : List (ℕ × Footprint)} → calls_of rows places ≡ calls → (from : ℕ) (o : Option ℕ) → find (goes_from rows places from) (list_at places 0) ≡ o
     → option_map (λ p. (row_at rows p).no) o ≡ option_map number_of (find (λ k. leb from k.0 && may_go calls k) calls)
 first_from rows places view from o e =
     rw (← view) (sym (
@@ -187,17 +187,17 @@ pub first_of_all : (calls : List (ℕ × Footprint)) → find (λ k. leb 0 k.0 &
 first_of_all calls = find_same _ _ (λ (k : ℕ × Footprint). ap (λ t. t && may_go calls k) (le-leb 0 k.0 (omega arith))) calls
 
 -- whether the call at a place goes, as it is told of the row there
-module _ (rows : List Row) (places : NodeLists) {calls : List (ℕ × Footprint)} (view : calls_of rows places ≡ calls) (from place : ℕ) (row : Row) (read : row ≡ row_at rows place) where
+module _ (rows : List WaitRow) (places : NodeLists) {calls : List (ℕ × Footprint)} (view : calls_of rows places ≡ calls) (from place : ℕ) (row : WaitRow) (read : row ≡ row_at rows place) where
   pub goes_here : (goes : Bool) → from ≤ row.no.0 → goes ≡ may_go calls (print_of row) → goes ≡ true → goes_from rows places from place ≡ true
   goes_here goes low e t =
       and_from (leb from (row_at rows place).no.0) (may_go (calls_of rows places) (print_at rows place))
-      (ap (λ (r : Row). leb from r.no.0) (sym read) ∙ le-leb from row.no.0 low)
-      (ap (λ ks. may_go ks (print_at rows place)) view ∙ ap (λ (r : Row). may_go calls (print_of r)) (sym read) ∙ sym e ∙ t)
+      (ap (λ (r : WaitRow). leb from r.no.0) (sym read) ∙ le-leb from row.no.0 low)
+      (ap (λ ks. may_go ks (print_at rows place)) view ∙ ap (λ (r : WaitRow). may_go calls (print_of r)) (sym read) ∙ sym e ∙ t)
 
   pub stays_before : row.no.0 < from → goes_from rows places from place ≡ false
-  stays_before below = and_left (leb from (row_at rows place).no.0) (may_go (calls_of rows places) (print_at rows place)) (ap (λ (r : Row). leb from r.no.0) (sym read) ∙ lt-leb from row.no.0 below)
+  stays_before below = and_left (leb from (row_at rows place).no.0) (may_go (calls_of rows places) (print_at rows place)) (ap (λ (r : WaitRow). leb from r.no.0) (sym read) ∙ lt-leb from row.no.0 below)
 
   pub stays_waiting : (goes : Bool) → goes ≡ may_go calls (print_of row) → goes ≡ false → goes_from rows places from place ≡ false
   stays_waiting goes e f =
       and_right (leb from (row_at rows place).no.0) (may_go (calls_of rows places) (print_at rows place))
-      (ap (λ ks. may_go ks (print_at rows place)) view ∙ ap (λ (r : Row). may_go calls (print_of r)) (sym read) ∙ sym e ∙ f)
+      (ap (λ ks. may_go ks (print_at rows place)) view ∙ ap (λ (r : WaitRow). may_go calls (print_of r)) (sym read) ∙ sym e ∙ f)

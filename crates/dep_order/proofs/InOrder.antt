@@ -5,7 +5,7 @@ use Rattle.std.proofs.lemmas.Bool.{or_left, or_right, eq-eqb, ne_eqb, eqb-false,
 use Rattle.client_model.specs.Order.{waits_for}
 use Rattle.index_lists.specs.NodeLists.{has, without, after}
 use Rattle.index_lists.proofs.Linking.{split_eq}
-use Rattle.dep_order.specs.declared.row.Row.{Row}
+use Rattle.dep_order.specs.declared.row.WaitRow.{WaitRow}
 use Rattle.dep_order.specs.declared.walk.Wanted.{Wanted}
 use Rattle.dep_order.specs.declared.walk.Wanted.TheVariants.{Number, AwaitedBy}
 use Rattle.dep_order.specs.Rows.{print_of}
@@ -53,7 +53,7 @@ module _ (number : ℕ → ℕ) where
       sym come.left ∙ ap (find test) split ∙ rw f (none_above test (number n) none behind rest.0)
 
 -- where a wanted row is none from this number on
-pub none_past : (rows : List Row) (wanted : Wanted) (n m : ℕ) → wanted_at rows wanted n ≡ false → number_wanted wanted ≤ number_at rows n → number_at rows n ≤ number_at rows m → wanted_at rows wanted m ≡ false
+pub none_past : (rows : List WaitRow) (wanted : Wanted) (n m : ℕ) → wanted_at rows wanted n ≡ false → number_wanted wanted ≤ number_at rows n → number_at rows n ≤ number_at rows m → wanted_at rows wanted m ≡ false
 none_past rows (Number its) n m f past le = let ne = eqb-false (number_at rows n) its.0 f in ne_eqb (number_at rows m) its.0 (λ same. ne (omega arith))
 none_past rows (AwaitedBy later) n m f past le =
     and_left (nat_lt (number_at rows m) later.no.0) (waits_for (print_of (row_at rows (place_of m))).1 (print_of later).1) (le-ltb (number_at rows m) later.no.0 (omega arith))

@@ -3,7 +3,7 @@ use Rattle.std.proofs.Common.{◌≡◌, ℕ, zero, suc, ◌+◌, ◌-◌, take,
 use Rattle.std.proofs.lemmas.List.{length-replicate}
 use Rattle.std.proofs.lemmas.List.FromFn.{length-range_with_len}
 use Rattle.index_lists.specs.NodeLists.{NodeLists, has, list_at, IsValid}
-use Rattle.dep_order.specs.declared.row.Row.{Row}
+use Rattle.dep_order.specs.declared.row.WaitRow.{WaitRow}
 use Rattle.dep_order.specs.WaitLists.{AreFit, row_at, no_row}
 use Rattle.dep_order.specs.Fields.{IsSound}
 use Rattle.index_lists.proofs.Free.{with_free, no_list}
@@ -16,14 +16,14 @@ same_row (suc n) (suc p) = same_row n p
 none_fit : AreFit no_row.pages
 none_fit = record { from = omega arith; end = omega arith; few = omega arith }
 
-module _ (rows : List Row) (places waits : NodeLists) (n k m : ℕ) (er : rows ≡ replicate n no_row) (ep : places ≡ with_free 256 n) (vp : IsValid places)
+module _ (rows : List WaitRow) (places waits : NodeLists) (n k m : ℕ) (er : rows ≡ replicate n no_row) (ep : places ≡ with_free 256 n) (vp : IsValid places)
     (ew : waits ≡ record { nodes = k; lists = replicate m [] }) (vw : IsValid waits) where
   none_held : (p : ℕ) → has (list_at places 0) p ≡ true → ⊥
   none_held p h = let none = sym (ap (λ v. has (list_at v 0) p) ep) ∙ h in cc
 
   pub made_sound : n ≡ 256 → k ≡ 5120 → m ≡ 1537 → IsSound rows places waits
   made_sound en ek em = record {
-    row_count = ap (length {A = Row}) er ∙ length-replicate {A = Row} n no_row ∙ en;
+    row_count = ap (length {A = WaitRow}) er ∙ length-replicate {A = WaitRow} n no_row ∙ en;
     fit = λ p. let is = ap (λ rs. row_at rs p) er ∙ same_row n p in rw is none_fit;
     place_count = ap (λ v. v.nodes) ep;
     two_lists = ap (λ v. length v.lists) ep;
@@ -39,9 +39,9 @@ module _ (rows : List Row) (places waits : NodeLists) (n k m : ℕ) (er : rows �
   }
 
 -- the rows of a vector that was empty, and was filled up
-pub filled_up : (n len : ℕ) (old new : List Row) → old ≡ [] → len ≡ 0 → new ≡ take n old ++ replicate (n - len) no_row → new ≡ replicate n no_row
+pub filled_up : (n len : ℕ) (old new : List WaitRow) → old ≡ [] → len ≡ 0 → new ≡ take n old ++ replicate (n - len) no_row → new ≡ replicate n no_row
 filled_up n len old new e l is = is ∙ ap (λ rs. take n rs ++ replicate (n - len) no_row) e ∙ nothing n (replicate (n - len) no_row) ∙ ap (λ k. replicate k no_row) (omega arith)
   where
-    nothing : (n : ℕ) (rs : List Row) → take n (let none : List Row = [] in none) ++ rs ≡ rs
+    nothing : (n : ℕ) (rs : List WaitRow) → take n (let none : List WaitRow = [] in none) ++ rs ≡ rs
     nothing zero rs = refl
     nothing (suc n) rs = refl

@@ -6,7 +6,7 @@ use Rattle.std.proofs.lemmas.List.{length-set, length-drop, length_push, get_or-
 use Rattle.std.proofs.lemmas.Option.{slice_get_within}
 use Rattle.index_lists.specs.NodeLists.{NodeLists, has, list_at, IsIn, IsFree, IsValid, with_list, without}
 use Rattle.index_lists.proofs.Edits.{has-without}
-use Rattle.dep_order.specs.declared.row.Row.{Row}
+use Rattle.dep_order.specs.declared.row.WaitRow.{WaitRow}
 use Rattle.dep_order.specs.Rows.{print_of}
 use Rattle.dep_order.specs.WaitLists.{AreFit, row_at, no_row, place_of, number_at, number_list, offload_list, page_list, IsGrown, IsInOrder, Stands, StandsFor}
 use Rattle.dep_order.specs.Fields.{print_at, calls_of, IsRising, IsSound}
@@ -18,7 +18,7 @@ use Rattle.dep_order.proofs.Going.{alone}
 use Rattle.index_lists.proofs.Members.{has_at, list_at_same, list_at_other, lists_same, has-push_cases, has-push_old, has-push_new, has-without_cases, length-without, first_gone}
 
 -- a place stands where it has to, also after others have joined or left
-stands_for : (v new : NodeLists) (place : ℕ) (row : Row) → ((list node : ℕ) → IsIn v list node → place_of node ≡ place → IsIn new list node) → StandsFor v place row → StandsFor new place row
+stands_for : (v new : NodeLists) (place : ℕ) (row : WaitRow) → ((list node : ℕ) → IsIn v list node → place_of node ≡ place → IsIn new list node) → StandsFor v place row → StandsFor new place row
 stands_for v new place row kept s =
     let on : (list : ℕ) → Stands v list place → Stands new list place = λ list h. (h.0, (kept list h.0 h.1.0 h.1.1, h.1.1)) in
     record {
@@ -28,7 +28,7 @@ stands_for v new place row kept s =
       by_page = λ page low high. on (page_list page) (s.by_page page low high);
     }
 
-module _ {rows : List Row} {places waits : NodeLists} (s : IsSound rows places waits) where
+module _ {rows : List WaitRow} {places waits : NodeLists} (s : IsSound rows places waits) where
   -- a place in a list is one of 256
   pub below : (l p : ℕ) → IsIn places l p → p < 256
   below l p h = omega (arith, (s.places_valid.in_range l p h).1, s.place_count)
@@ -62,7 +62,7 @@ module _ {rows : List Row} {places waits : NodeLists} (s : IsSound rows places w
         | inr ne ↦ ne (s.places_valid.apart l 1 n (ap (λ xs. has xs n) (sym (ap (λ v. list_at v l) e1 ∙ list_at_other places 1 l (drop 1 (list_at places 1)) ne)) ∙ h) free)
       ])
 
-      module _ (row : Row) (rows' : List Row) (er : rows' ≡ set rows n row) (p2 w2 : NodeLists) (e2 : p2 ≡ with_list p1 0 (list_at p1 0 ++ n ∷ [])) where
+      module _ (row : WaitRow) (rows' : List WaitRow) (er : rows' ≡ set rows n row) (p2 w2 : NodeLists) (e2 : p2 ≡ with_list p1 0 (list_at p1 0 ++ n ∷ [])) where
         row_here : row_at rows' n ≡ row
         row_here = ap (λ rs. row_at rs n) er ∙ get_or-set_same rows n row no_row (omega (arith, new_below, s.row_count))
 
@@ -87,16 +87,16 @@ module _ {rows : List Row} {places waits : NodeLists} (s : IsSound rows places w
 
         its_number : (added : List ℕ) → AreAmong (n * 20) (n * 20 + 20) added → AllByRecursion (λ m. number_at rows' m ≡ row.no.0) added
         its_number [] h = tt
-        its_number (m ∷ ms) h = (let e : place_of m ≡ n = omega (arith, h.0.0, h.0.1) in ap (λ p. (row_at rows' p).no.0) e ∙ ap (λ (r : Row). r.no.0) row_here, its_number ms h.1)
+        its_number (m ∷ ms) h = (let e : place_of m ≡ n = omega (arith, h.0.0, h.0.1) in ap (λ p. (row_at rows' p).no.0) e ∙ ap (λ (r : WaitRow). r.no.0) row_here, its_number ms h.1)
 
         pub new_sound : Below row.no.0 (calls_of rows places) → AreFit row.pages → IsValid p2 → w2.nodes ≡ waits.nodes → length w2.lists ≡ length waits.lists → IsValid w2
             → StandsFor w2 n row → ((list : ℕ) → IsGrown (n * 20) (n * 20 + 20) (list_at waits list) (list_at w2 list))
             → IsSound rows' p2 w2
         new_sound later fits v2 nodes count vw joined grown = record {
-          row_count = ap (length {A = Row}) er ∙ length-set rows n row ∙ s.row_count;
+          row_count = ap (length {A = WaitRow}) er ∙ length-set rows n row ∙ s.row_count;
           fit = λ p. elim (cases_eq p n) [
-            | inl e ↦ subst (λ (r : Row). AreFit r.pages) (sym (ap (row_at rows') e ∙ row_here)) fits
-            | inr ne ↦ subst (λ (r : Row). AreFit r.pages) (sym (row_other p ne)) (s.fit p)
+            | inl e ↦ subst (λ (r : WaitRow). AreFit r.pages) (sym (ap (row_at rows') e ∙ row_here)) fits
+            | inr ne ↦ subst (λ (r : WaitRow). AreFit r.pages) (sym (row_other p ne)) (s.fit p)
           ];
           place_count = ap (λ v. v.nodes) e2 ∙ ap (λ v. v.nodes) e1 ∙ s.place_count;
           two_lists = ap (λ v. length v.lists) e2 ∙ lists_same p1 0 _ ∙ ap (λ v. length v.lists) e1 ∙ lists_same places 1 (drop 1 (list_at places 1)) ∙ s.two_lists;
@@ -127,7 +127,7 @@ module _ {rows : List Row} {places waits : NodeLists} (s : IsSound rows places w
               let now = grown l in
               subst (IsInOrder (number_at rows')) (sym now.1.0) (
               order_grown (number_at rows) (number_at rows') row.no.0 (list_at waits l) now.0 (s.in_order l)
-              (λ m there. let held = s.used l m there in (ap (λ (r : Row). r.no.0) (old_other (place_of m) held), omega (arith, below_there (print_at rows) row.no.0 (list_at places 0) (place_of m) later held)))
+              (λ m there. let held = s.used l m there in (ap (λ (r : WaitRow). r.no.0) (old_other (place_of m) held), omega (arith, below_there (print_at rows) row.no.0 (list_at places 0) (place_of m) later held)))
               (its_number now.0 now.1.1));
         }
 

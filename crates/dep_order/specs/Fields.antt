@@ -4,17 +4,17 @@ use Rattle.std.specs.List.{AllByRecursion}
 use Rattle.cl_types.specs.declared.limits.TheConstants.{HELD_CALLS}
 use Rattle.client_model.specs.Order.{Footprint}
 use Rattle.index_lists.specs.NodeLists.{NodeLists, list_at, IsIn, IsValid}
-use Rattle.dep_order.specs.declared.row.Row.{Row}
+use Rattle.dep_order.specs.declared.row.WaitRow.{WaitRow}
 use Rattle.dep_order.specs.declared.wait_lists.TheConstants.{NODES, LISTS}
 use Rattle.dep_order.specs.Rows.{print_of}
 use Rattle.dep_order.specs.WaitLists.{AreFit, row_at, place_of, number_at, IsInOrder, StandsFor}
 
 -- the number and footprint of the row at a place
-abbrev pub print_at : List Row → ℕ → ℕ × Footprint
+abbrev pub print_at : List WaitRow → ℕ → ℕ × Footprint
 print_at rows place = print_of (row_at rows place)
 
 -- the calls: those of the rows at the places of list 0
-abbrev pub calls_of : List Row → NodeLists → List (ℕ × Footprint)
+abbrev pub calls_of : List WaitRow → NodeLists → List (ℕ × Footprint)
 calls_of rows places = map (print_at rows) (list_at places 0)
 
 -- each call has a greater number than those before it
@@ -23,7 +23,7 @@ IsRising [] = Unit {0}
 IsRising (k ∷ ks) = AllByRecursion (λ (other : ℕ × Footprint). k.0 < other.0) ks × IsRising ks
 
 -- what holds of the fields at every moment
-pub record IsSound (rows : List Row) (places waits : NodeLists) : Type 0 where
+pub record IsSound (rows : List WaitRow) (places waits : NodeLists) : Type 0 where
   pub row_count : length rows ≡ HELD_CALLS
   pub fit : (place : ℕ) → AreFit (row_at rows place).pages
   -- each place is in one of the two lists, and the calls of those in list 0 are in order

@@ -5,7 +5,7 @@ use Rattle.cl_types.specs.declared.limits.TheConstants.{HELD_CALLS, RANGE_PAGES,
 use Rattle.client_model.specs.Order.{waits_for}
 use Rattle.index_lists.specs.NodeLists.{NodeLists, IsIn}
 use Rattle.dep_order.specs.declared.row.Pages.{Pages}
-use Rattle.dep_order.specs.declared.row.Row.{Row}
+use Rattle.dep_order.specs.declared.row.WaitRow.{WaitRow}
 use Rattle.dep_order.specs.declared.wait_lists.TheConstants.{GROUP_PAGES, OFFLOADS, FENCES, NUMBERS, NODES}
 use Rattle.dep_order.specs.declared.walk.Wanted.{Wanted}
 use Rattle.dep_order.specs.declared.walk.Wanted.TheVariants.{Number, AwaitedBy}
@@ -19,11 +19,11 @@ pub record AreFit (pages : Pages) : Type 0 where
   pub few : pages.end ≤ pages.from + RANGE_PAGES
 
 -- a stand-in for the row at a place that has none
-abbrev pub no_row : Row
+abbrev pub no_row : WaitRow
 no_row = record { no = record { 0 = 0 }; pages = record { from = 0; end = 0 }; reads = false; fence = false; offload = None }
 
 -- the row at a place
-abbrev pub row_at : List Row → ℕ → Row
+abbrev pub row_at : List WaitRow → ℕ → WaitRow
 row_at rows place = slice_index_or rows place no_row
 
 -- ---- lists
@@ -52,7 +52,7 @@ abbrev pub IsGrown : ℕ → ℕ → List ℕ → List ℕ → Type 0
 IsGrown low high old new = (added : List ℕ) × ((new ≡ old ++ added) × AllByRecursion (λ node. (low ≤ node) × (node < high)) added)
 
 -- the number of the call at a node's place
-abbrev pub number_at : List Row → ℕ → ℕ
+abbrev pub number_at : List WaitRow → ℕ → ℕ
 number_at rows node = (row_at rows (place_of node)).no.0
 
 -- what the nodes have as numbers never falls along the list
@@ -61,7 +61,7 @@ IsInOrder number [] = Unit {0}
 IsInOrder number (n ∷ ns) = AllByRecursion (λ m. number n ≤ number m) ns × IsInOrder number ns
 
 -- the place stands in each list in which the row has to
-pub record StandsFor (waits : NodeLists) (place : ℕ) (row : Row) : Type 0 where
+pub record StandsFor (waits : NodeLists) (place : ℕ) (row : WaitRow) : Type 0 where
   pub by_number : Stands waits (number_list row.no.0) place
   pub by_fence : row.fence ≡ true → Stands waits FENCES place
   pub by_offload : (number : ℕ) (odd : Bool) → row.offload ≡ Some (number, odd) → Stands waits (offload_list number) place
@@ -69,7 +69,7 @@ pub record StandsFor (waits : NodeLists) (place : ℕ) (row : Row) : Type 0 wher
 
 -- ---- walks
 -- the first row's call is earlier than the second's, which waits for it
-abbrev pub is_awaited : Row → Row → Bool
+abbrev pub is_awaited : WaitRow → WaitRow → Bool
 is_awaited other row = nat_lt other.no.0 row.no.0 && waits_for (print_of other).1 (print_of row).1
 
 -- no call from this number on is wanted, but the one of the number itself
@@ -78,10 +78,10 @@ number_wanted (Number number) = number.0
 number_wanted (AwaitedBy later) = later.no.0
 
 -- the row is the wanted one
-abbrev pub is_wanted : Wanted → Row → Bool
+abbrev pub is_wanted : Wanted → WaitRow → Bool
 is_wanted (Number number) row = row.no.0 == number.0
 is_wanted (AwaitedBy later) row = is_awaited row later
 
 -- the node is of a place that has the wanted row
-abbrev pub wanted_at : List Row → Wanted → ℕ → Bool
+abbrev pub wanted_at : List WaitRow → Wanted → ℕ → Bool
 wanted_at rows wanted node = is_wanted wanted (row_at rows (place_of node))

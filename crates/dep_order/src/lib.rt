@@ -8,7 +8,7 @@
 //!
 //! Each call stands in lists: of the groups of 64 pages that its pages meet, of its offload, of the
 //! Fences, and of its number. `ready` walks along those of its own call and along that of the
-//! Fences, and no further than the calls before its own; `first_ready_of` asks this of each call in
+//! Fences, and no further than the calls before its own; `first_ready` asks this of each call in
 //! order. How the lists lie shows in no clause, and how far a walk goes can be seen in the code.
 //!
 //! What the calls do, and when they end, is left to others.

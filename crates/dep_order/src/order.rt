@@ -10,7 +10,7 @@ ghost use Rattle.dep_order.specs.Calls.{number_of};
 ghost use Rattle.dep_order.specs.Rows.{print_of};
 ghost use Rattle.dep_order.specs.WaitLists.{AreFit};
 
-use crate::row::{NO_ROW, Row, row_of};
+use crate::row::{NO_ROW, WaitRow, row_of};
 use crate::wait_lists::{FENCES, LISTS, NODES, Run, join, leave, offload_lists, page_lists};
 use crate::walk::{place_of_number, waits_in};
 use cl_types::call::Call;
@@ -31,7 +31,7 @@ const FREE: u32 = 1;
 #[derive(Drop)]
 pub struct Order {
     // Each call has a place, below `HELD_CALLS`, at which its row stands.
-    rows: Vec<Row>,
+    rows: Vec<WaitRow>,
     //     HELD   7 -> 2 -> 5     in order of issue
     //     FREE   the other places
     places: Lists,
@@ -119,7 +119,7 @@ impl Order {
 
     /// The first call that may go, in order of issue, of those from this number on. `None` comes
     /// exactly where none of these may.
-    pub fn first_ready_of(&self, from: CallNo) -> Option<CallNo>
+    fn first_ready_of(&self, from: CallNo) -> Option<CallNo>
         ensures { result
             ≡ option_map number_of (find (λ k. leb from.0 k.0 && may_go self.now k) self.now) }
     {
@@ -135,7 +135,7 @@ impl Order {
     }
 
     /// Whether the row's call waits for none of those that are held.
-    fn goes(&self, row: &Row) -> bool
+    fn goes(&self, row: &WaitRow) -> bool
         requires { AreFit row.now.pages }
         ensures { result ≡ may_go self.now (print_of row.now) }
     {
@@ -149,7 +149,7 @@ impl Order {
     }
 
     /// Whether no held call is earlier than the row's.
-    fn has_none_before(&self, row: &Row) -> bool
+    fn has_none_before(&self, row: &WaitRow) -> bool
         ensures { result ≡ list_all (λ k. not (nat_lt k.0 row.now.no.0)) self.now }
     {
         let Some(place) = self.places.first(HELD) else {
@@ -159,7 +159,7 @@ impl Order {
     }
 
     /// Whether the row's call, which is no Fence, waits for a held one.
-    fn waits_at_a_list(&self, row: &Row) -> bool
+    fn waits_at_a_list(&self, row: &WaitRow) -> bool
         requires fit { AreFit row.now.pages }
         requires no_fence { row.now.fence ≡ false }
         ensures { result ≡ not (may_go self.now (print_of row.now)) }

@@ -13,7 +13,7 @@ use cl_types::numbers::{Addr, CallNo};
 
 /// What the order of a call rests on.
 #[derive(Clone, Copy)]
-pub struct Row {
+pub struct WaitRow {
     pub no: CallNo,
     /// The pages that it reaches or names.
     pub pages: Pages,
@@ -34,7 +34,7 @@ pub struct Pages {
 const NO_PAGES: Pages = Pages { from: 0, end: 0 };
 
 /// A row with no pages, no offload and no Fence.
-pub const NO_ROW: Row = Row {
+pub const NO_ROW: WaitRow = WaitRow {
     no: CallNo(0),
     pages: NO_PAGES,
     reads: false,
@@ -43,7 +43,7 @@ pub const NO_ROW: Row = Row {
 };
 
 /// What the order of a good call rests on.
-pub fn row_of(no: CallNo, call: &Call) -> Row
+pub fn row_of(no: CallNo, call: &Call) -> WaitRow
     requires { first_fault (call_faults call.now) ≡ None }
     ensures print { print_of result ≡ (no.0, footprint call.now) }
     ensures fit { AreFit result.pages }
@@ -65,11 +65,11 @@ pub fn row_of(no: CallNo, call: &Call) -> Row
             false,
         ),
         Call::Atomic { addr, .. } => touching(no, pages_over(*addr, 8), false),
-        Call::Offload { no: number, op, .. } => Row {
+        Call::Offload { no: number, op, .. } => WaitRow {
             offload: Some((*number, *op % 2 == 1)),
             ..touching(no, NO_PAGES, false)
         },
-        Call::Fence => Row {
+        Call::Fence => WaitRow {
             fence: true,
             ..touching(no, NO_PAGES, false)
         },
@@ -78,13 +78,13 @@ pub fn row_of(no: CallNo, call: &Call) -> Row
 }
 
 /// A call that uses these pages, and no offload.
-fn touching(no: CallNo, pages: Pages, reads: bool) -> Row
+fn touching(no: CallNo, pages: Pages, reads: bool) -> WaitRow
     requires { AreFit pages }
     ensures print { print_of result
         ≡ (no.0, record { pages = pages_of pages; reads = reads; fence = false; offload = None }) }
     ensures fit { AreFit result.pages }
 {
-    Row {
+    WaitRow {
         no,
         pages,
         reads,
@@ -107,14 +107,14 @@ fn pages_over(addr: Addr, bytes: u32) -> Pages
 }
 
 /// Whether the later call waits for the earlier one.
-pub fn waits(earlier: &Row, later: &Row) -> bool
+pub fn waits(earlier: &WaitRow, later: &WaitRow) -> bool
     ensures { result ≡ waits_for (print_of earlier.now).1 (print_of later.now).1 }
 {
     collide(earlier, later) || earlier.fence || later.fence
 }
 
 /// Whether the calls may not pass each other, for a page or an offload that both use.
-fn collide(a: &Row, b: &Row) -> bool
+fn collide(a: &WaitRow, b: &WaitRow) -> bool
     ensures { result ≡ collide_of (print_of a.now).1 (print_of b.now).1 }
 {
     share_a_page(a.pages, b.pages) && !(a.reads && b.reads)

@@ -8,7 +8,7 @@ ghost use Rattle.std.specs.Prelude.{◌≡◌, ◌⊎◌, Bool, ℕ, ◌+◌, �
 ghost use Rattle.index_lists.specs.NodeLists.{IsFree, IsIn, IsValid, list_at};
 ghost use Rattle.dep_order.specs.WaitLists.{AreFit, IsGrown, IsInOrder, Stands, StandsFor, number_list as number_list_of, offload_list, page_list, place_of};
 
-use crate::row::Row;
+use crate::row::WaitRow;
 use cl_types::limits::{HELD_CALLS, RANGE_PAGES, SPACE_PAGES};
 use cl_types::numbers::CallNo;
 use index_lists::Lists;
@@ -59,7 +59,7 @@ pub fn number_list(no: CallNo) -> u32
 }
 
 /// The list of the Fences, where the row is of one.
-fn fence_lists(row: &Row) -> Run
+fn fence_lists(row: &WaitRow) -> Run
     ensures from { result.from ≡ FENCES }
     ensures there { row.now.fence ≡ true → result.count ≡ 1 }
     ensures one { result.count ≤ 1 }
@@ -71,7 +71,7 @@ fn fence_lists(row: &Row) -> Run
 }
 
 /// The list of the row's offload, where it has one.
-pub fn offload_lists(row: &Row) -> Run
+pub fn offload_lists(row: &WaitRow) -> Run
     ensures there { (number : ℕ) (odd : Bool) → row.now.offload ≡ Some (number, odd)
         → (result.from ≡ offload_list number) × (result.count ≡ 1) }
     ensures one { result.count ≤ 1 }
@@ -87,7 +87,7 @@ pub fn offload_lists(row: &Row) -> Run
 }
 
 /// The lists of the groups that the row's pages meet.
-pub fn page_lists(row: &Row) -> Run
+pub fn page_lists(row: &WaitRow) -> Run
     requires { AreFit row.now.pages }
     ensures there { (page : ℕ) → row.now.pages.from ≤ page → page < row.now.pages.end
         → (result.from ≤ page_list page) × (page_list page < result.from + result.count) }
@@ -123,7 +123,7 @@ fn join_run(waits: &mut Lists, first: u32, run: Run)
 }
 
 /// Puts a place that stands in no list into those of its row.
-pub fn join(waits: &mut Lists, place: u32, row: &Row)
+pub fn join(waits: &mut Lists, place: u32, row: &WaitRow)
     requires lists { length waits.old.lists ≡ LISTS }
     requires nodes { waits.old.nodes ≡ HELD_CALLS * NODES }
     requires valid { IsValid waits.old }

@@ -5,7 +5,7 @@ ghost use Rattle.index_lists.specs.NodeLists.{IsIn, IsValid, list_at};
 ghost use Rattle.dep_order.specs.WaitLists.{IsInOrder, is_wanted as is_wanted_of, number_at, number_list as number_list_of, number_wanted, place_of, wanted_at};
 ghost use Rattle.dep_order.specs.declared.walk.Wanted.TheVariants.{AwaitedBy, Number};
 
-use crate::row::{Row, waits};
+use crate::row::{WaitRow, waits};
 use crate::wait_lists::{LISTS, NODES, Run, number_list};
 use cl_types::limits::HELD_CALLS;
 use cl_types::numbers::CallNo;
@@ -17,7 +17,7 @@ pub enum Wanted {
     /// The one of the call of this number.
     Number(CallNo),
     /// One of an earlier call that this row's waits for.
-    AwaitedBy(Row),
+    AwaitedBy(WaitRow),
 }
 
 impl Wanted {
@@ -33,7 +33,7 @@ impl Wanted {
 }
 
 /// The place of the call of this number. `None` comes exactly where its list has none.
-pub fn place_of_number(lists: &Lists, rows: &[Row], no: CallNo) -> Option<u32>
+pub fn place_of_number(lists: &Lists, rows: &[WaitRow], no: CallNo) -> Option<u32>
     requires lists { length lists.now.lists ≡ LISTS }
     requires nodes { lists.now.nodes ≡ HELD_CALLS * NODES }
     requires rows { length rows.now ≡ HELD_CALLS }
@@ -45,7 +45,7 @@ pub fn place_of_number(lists: &Lists, rows: &[Row], no: CallNo) -> Option<u32>
 }
 
 /// Whether the row's call waits for one that stands in a list of the run.
-pub fn waits_in(lists: &Lists, run: Run, rows: &[Row], row: &Row) -> bool
+pub fn waits_in(lists: &Lists, run: Run, rows: &[WaitRow], row: &WaitRow) -> bool
     requires lists { length lists.now.lists ≡ LISTS }
     requires within { run.from + run.count ≤ LISTS }
     requires nodes { lists.now.nodes ≡ HELD_CALLS * NODES }
@@ -67,7 +67,7 @@ pub fn waits_in(lists: &Lists, run: Run, rows: &[Row], row: &Row) -> bool
 
 /// The place of the first call in a list whose row is wanted. `None` comes exactly where there is
 /// none.
-fn first_wanted(lists: &Lists, list: u32, rows: &[Row], wanted: Wanted) -> Option<u32>
+fn first_wanted(lists: &Lists, list: u32, rows: &[WaitRow], wanted: Wanted) -> Option<u32>
     requires within { list < length lists.now.lists }
     requires nodes { lists.now.nodes ≡ HELD_CALLS * NODES }
     requires rows { length rows.now ≡ HELD_CALLS }
@@ -92,7 +92,7 @@ fn first_wanted(lists: &Lists, list: u32, rows: &[Row], wanted: Wanted) -> Optio
 }
 
 /// Whether the row is the wanted one.
-fn is_wanted(wanted: Wanted, row: &Row) -> bool
+fn is_wanted(wanted: Wanted, row: &WaitRow) -> bool
     ensures { result ≡ is_wanted_of wanted row.now }
 {
     match wanted {

@@ -18,7 +18,7 @@ use Rattle.flat_model.specs.Rows.{put_bytes, with_changed, with_put}
 use Rattle.flat_model.specs.Checks.{Opens, Checks}
 use Rattle.flat_model.specs.Run.{MayStep}
 use Rattle.flat_model.specs.State.{FlatState, Page, bytes_of}
-use Rattle.flat_model.specs.Step.{MayReply, Outcome, refused, puts, read, write, atomic, may_write, may_change}
+use Rattle.flat_model.specs.Step.{MayReply, Transition, refused, puts, read, write, atomic, may_write, may_change}
 
 same_either_way : {A : Type 0} (b : Bool) (x y : A) → x ≡ y → y ≡ (if b then x else y)
 same_either_way true x y same = sym same
@@ -29,12 +29,12 @@ in_err : {P : Type 0} (result : Result Bool NoMemory) → P → OnErr result P
 in_err (Ok may) holds = tt
 in_err (Err fault) holds = holds
 
-module _ (s : FlatState) (outcome : Outcome) (reply : Reply) where
+module _ (s : FlatState) (outcome : Transition) (reply : Reply) where
   -- a reply to a refused request
   pub checks_refused : (refusal : Refusal) (may : Bool) → outcome ≡ refused s refusal → IsTrue may ↔ (reply ≡ Refused refusal) → Checks s outcome reply may s
   checks_refused refusal may is test = record {
-    allowed = subst (λ (o : Outcome). IsTrue may ↔ (reply ≡ o.reply)) (sym is) test;
-    after = same_either_way may outcome.state s (ap (λ (o : Outcome). o.state) is);
+    allowed = subst (λ (o : Transition). IsTrue may ↔ (reply ≡ o.reply)) (sym is) test;
+    after = same_either_way may outcome.state s (ap (λ (o : Transition). o.state) is);
   }
 
   -- a reply that isn't the machine's
@@ -55,12 +55,12 @@ put_is_puts s pid addr i page bytes reply there =
 
 module _ (s : FlatState) (pid : ℕ) (addr : Addr) (i : ℕ) (bytes : List ℕ) (reply : Reply) (may : Bool) (test : IsTrue may ↔ (reply ≡ Nothing)) where
   write_test : (opens : Opens s pid addr may_write (Ok i)) → IsTrue may ↔ (reply ≡ (write s pid addr bytes).reply)
-  write_test opens = subst (λ (o : Outcome). IsTrue may ↔ (reply ≡ o.reply)) (sym (opens.2 (λ page. puts s pid addr page bytes Nothing))) test
+  write_test opens = subst (λ (o : Transition). IsTrue may ↔ (reply ≡ o.reply)) (sym (opens.2 (λ page. puts s pid addr page bytes Nothing))) test
 
   pub checks_write : (new : FlatState) → Opens s pid addr may_write (Ok i) → may ≡ true → new ≡ put_bytes s i (offset_of addr) bytes → Checks s (write s pid addr bytes) reply true new
   checks_write new opens passes is =
       checks_same s (write s pid addr bytes) reply may new (write_test opens) passes
-      (is ∙ put_is_puts s pid addr i opens.0 bytes Nothing opens.1 ∙ ap (λ (o : Outcome). o.state) (sym (opens.2 (λ page. puts s pid addr page bytes Nothing))))
+      (is ∙ put_is_puts s pid addr i opens.0 bytes Nothing opens.1 ∙ ap (λ (o : Transition). o.state) (sym (opens.2 (λ page. puts s pid addr page bytes Nothing))))
 
   pub wants_write : (result : Result Bool NoMemory) → Opens s pid addr may_write (Ok i) → may ≡ true → OnErr result (reply ≡ (write s pid addr bytes).reply)
   wants_write result opens passes = in_err result ((write_test opens).0 passes)
@@ -69,7 +69,7 @@ module _ (s : FlatState) (pid : ℕ) (addr : Addr) (i : ℕ) (bytes : List ℕ) 
   checks_no_write opens fails = checks_other s (write s pid addr bytes) reply may (write_test opens) fails
 
 -- what an atomic comes to, with the word that stands there
-abbrev changes_word : FlatState → ℕ → Addr → AtomicOp → Page → ℕ → Outcome
+abbrev changes_word : FlatState → ℕ → Addr → AtomicOp → Page → ℕ → Transition
 changes_word s pid addr op page word = puts s pid addr page (to_le_bytes w64 (word_after op word)) (Word word)
 
 module _ (s : FlatState) (pid : ℕ) (addr : Addr) (i : ℕ) (op : AtomicOp) (reply : Reply) (may : Bool) (word : ℕ) (read : Page) where
@@ -91,13 +91,13 @@ module _ (s : FlatState) (pid : ℕ) (addr : Addr) (i : ℕ) (op : AtomicOp) (re
       ∙ ap (changes_word s pid addr op r.opens.0) (ap (λ (page : Page). word_at (offset_of addr) (bytes_of page)) (sym (same_page r)) ∙ sym r.is_word)
 
   atomic_test : (r : Read) → IsTrue may ↔ (reply ≡ (atomic s pid addr op).reply)
-  atomic_test r = subst (λ (o : Outcome). IsTrue may ↔ (reply ≡ o.reply)) (sym (atomic_is r)) r.test
+  atomic_test r = subst (λ (o : Transition). IsTrue may ↔ (reply ≡ o.reply)) (sym (atomic_is r)) r.test
 
   pub checks_atomic : (new : FlatState) → Read → may ≡ true → new ≡ put_bytes s i (offset_of addr) (to_le_bytes w64 (word_after op word))
       → Checks s (atomic s pid addr op) reply true new
   checks_atomic new r passes is =
       checks_same s (atomic s pid addr op) reply may new (atomic_test r) passes
-      (is ∙ put_is_puts s pid addr i r.opens.0 (to_le_bytes w64 (word_after op word)) (Word word) r.opens.1 ∙ ap (λ (o : Outcome). o.state) (sym (atomic_is r)))
+      (is ∙ put_is_puts s pid addr i r.opens.0 (to_le_bytes w64 (word_after op word)) (Word word) r.opens.1 ∙ ap (λ (o : Transition). o.state) (sym (atomic_is r)))
 
   pub wants_atomic : (result : Result Bool NoMemory) → Read → may ≡ true → OnErr result (reply ≡ (atomic s pid addr op).reply)
   wants_atomic result r passes = in_err result ((atomic_test r).0 passes)

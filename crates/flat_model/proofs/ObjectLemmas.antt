@@ -9,7 +9,7 @@ use Rattle.cl_types.specs.declared.reply.Reply.TheVariants.{Refused}
 use Rattle.flat_model.specs.Checks.{Checks, ChecksObject, ChecksOne, reply_given, object_given}
 use Rattle.flat_model.specs.Objects.{Object, Given, object_step}
 use Rattle.flat_model.specs.State.{FlatState}
-use Rattle.flat_model.specs.Step.{Outcome, given, offload, on_object}
+use Rattle.flat_model.specs.Step.{Transition, given, offload, on_object}
 use Rattle.flat_model.proofs.CheckLemmas.{checks_refused}
 use Rattle.flat_model.proofs.RunLemmas.{set_same}
 
@@ -40,7 +40,7 @@ module _ (s : FlatState) (number out : ℕ) (object : Object) (there : slice_get
   pub checks_offload : (op : ℕ) (bytes : List ℕ) (reply : Reply) (may : Bool) (rest : List Object) → ChecksOne s.objects number object op bytes out reply may rest
       → Checks s (offload s number op out bytes) reply may (record s { objects = rest })
   checks_offload op bytes reply may rest one =
-      subst (λ (o : Outcome). Checks s o reply may (record s { objects = rest })) (ap (on_object s number op out bytes) (sym there))
+      subst (λ (o : Transition). Checks s o reply may (record s { objects = rest })) (ap (on_object s number op out bytes) (sym there))
       (subst (λ (os : List Object). Checks s (given s number out (object_step object op bytes)) reply may (record s { objects = os })) (sym one.set)
       (checks_given (object_step object op bytes) reply may one.new one.checks))
 

@@ -8,16 +8,16 @@ use Rattle.cl_types.specs.declared.reply.Reply.TheVariants.{Refused, Got}
 use Rattle.flat_model.specs.Objects.{Object, KvObject, Pairs, Given, object_step}
 use Rattle.cl_types.specs.Pages.{page_of}
 use Rattle.flat_model.specs.State.{FlatState, Page}
-use Rattle.flat_model.specs.Step.{Outcome, on_bytes, refused}
+use Rattle.flat_model.specs.Step.{Transition, on_bytes, refused}
 
 -- What looking for the page of an address gives, that is to get bytes: why it gets none, or the position of its entry.
 abbrev pub Opens : FlatState → ℕ → Addr → (Perm → Bool) → Result ℕ Refusal → Type 0
-Opens s pid addr may (Err refusal) = (go : Page → Outcome) → on_bytes s pid addr may go ≡ refused s refusal
+Opens s pid addr may (Err refusal) = (go : Page → Transition) → on_bytes s pid addr may go ≡ refused s refusal
 Opens s pid addr may (Ok i) =
-    (page : Page) × (slice_get s.map i ≡ Some ((pid, page_of addr), page)) × ((go : Page → Outcome) → on_bytes s pid addr may go ≡ go page)
+    (page : Page) × (slice_get s.map i ≡ Some ((pid, page_of addr), page)) × ((go : Page → Transition) → on_bytes s pid addr may go ≡ go page)
 
 -- whether the machine gives this reply, and the state after it, which is the old one where it doesn't
-pub record Checks (old : FlatState) (outcome : Outcome) (reply : Reply) (may : Bool) (new : FlatState) : Type 0 where
+pub record Checks (old : FlatState) (outcome : Transition) (reply : Reply) (may : Bool) (new : FlatState) : Type 0 where
   pub allowed : IsTrue may ↔ (reply ≡ outcome.reply)
   pub after : new ≡ (if may then outcome.state else old)
 

@@ -9,6 +9,7 @@ use Rattle.cl_types.specs.declared.config.OffloadConfig.{OffloadConfig}
 use Rattle.cl_types.specs.declared.config.OffloadConfig.TheVariants.{Kv}
 use Rattle.cl_types.specs.declared.reply.Refusal.{Refusal}
 use Rattle.cl_types.specs.declared.reply.Refusal.TheVariants.{ObjectFull, NoKey, BadOp}
+use Rattle.cl_types.specs.declared.limits.TheConstants.{KEY_BYTES, VALUE_BYTES}
 
 -- the keys of a key-value store with their values, in the order of the keys
 abbrev pub Pairs : Type 0
@@ -30,10 +31,10 @@ Given = Result (List ℕ × Object) Refusal
 abbrev pub key_cmp : List ℕ → List ℕ → Ordering
 key_cmp = slice_cmp nat_cmp
 
--- the first byte is the length of the key, of 1 to 32 bytes, and at most so many bytes stand behind the key
+-- the first byte is the length of the key, of 1 to `KEY_BYTES` bytes, and at most so many bytes stand behind the key
 abbrev pub is_keyed : ℕ → List ℕ → Bool
 is_keyed most [] = false
-is_keyed most (n ∷ bytes) = leb 1 n && leb n 32 && leb n (length bytes) && leb (length bytes) (n + most)
+is_keyed most (n ∷ bytes) = leb 1 n && leb n KEY_BYTES && leb n (length bytes) && leb (length bytes) (n + most)
 
 -- the key in an operation's bytes, as long as their first byte says
 abbrev pub key_in : List ℕ → List ℕ
@@ -66,7 +67,7 @@ kv_delete records pairs key =
 -- 1 puts, 2 gets, 3 deletes and 4 counts; nothing else is an operation, and each needs bytes of its form
 abbrev pub kv_step : ℕ → Pairs → ℕ → List ℕ → Given
 kv_step records pairs op bytes =
-    if op == 1 && is_keyed 256 bytes then kv_put records pairs (key_in bytes) (value_in bytes)
+    if op == 1 && is_keyed VALUE_BYTES bytes then kv_put records pairs (key_in bytes) (value_in bytes)
     else if op == 2 && is_keyed 0 bytes then kv_get records pairs (find key_cmp (key_in bytes) pairs)
     else if op == 3 && is_keyed 0 bytes then kv_delete records pairs (key_in bytes)
     else if op == 4 && length bytes == 0 then Ok (to_be_bytes w32 (length pairs), KvObject records pairs)

@@ -6,7 +6,7 @@ use Rattle.std.specs.FinMap.Entries.{find}
 use Rattle.cl_types.specs.declared.limits.TheConstants.{BUCKET_PAGES, SPACE_PAGES}
 use Rattle.cl_types.specs.Bytes.{fresh_bytes}
 use Rattle.cl_types.specs.Config.{offload_pages}
-use Rattle.cl_types.specs.Places.{Place, place_cmp, homes_at}
+use Rattle.cl_types.specs.Places.{Place, place_cmp, homes_at, space_no}
 use Rattle.cl_types.specs.declared.call.Perm.{Perm}
 use Rattle.cl_types.specs.declared.config.NodeConfig.{NodeConfig}
 use Rattle.cl_types.specs.declared.config.OffloadConfig.{OffloadConfig}
@@ -34,7 +34,7 @@ pub record FlatState : Type 0 where
 abbrev pub held_from : ℕ → List OffloadConfig → List Place
 held_from k [] = []
 held_from k (offload ∷ offloads) =
-    map (λ page. (65280 + k, page)) (range_with_len 1 (offload_pages offload)) ++ held_from (k + 1) offloads
+    map (λ page. (space_no k, page)) (range_with_len 1 (offload_pages offload)) ++ held_from (k + 1) offloads
 
 -- the state at the opening: no page is mapped, and the objects are empty
 abbrev pub opening : NodeConfig → FlatState

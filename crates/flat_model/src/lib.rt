@@ -3,14 +3,12 @@
 //!
 //! The machine is flat, zero-filled, permission-checked address spaces, one for each process, and the objects of the
 //! offloads. A contract sees a `Flat` as its `FlatState`. `create` opens one, and `check_step` tells whether one step
-//! of a history is a step of the machine. `execute` has the steps that the machine takes by itself, for an Alloc, a Read
-//! and a Write, and a look at its memory. How a node keeps its pages, and how a client keeps its calls, is left to their
+//! of a history is a step of the machine. How a node keeps its pages, and how a client keeps its calls, is left to their
 //! crates.
 #![tactic(auto)]
 
 mod buckets;
 pub mod check;
-pub mod execute;
 pub mod flat;
 mod need;
 pub mod opening;

@@ -3,7 +3,7 @@
 ghost use Rattle.std.specs.Prelude.{◌≡◌, ◌+◌, ◌≤◌, ◌<◌, IfNone, IsTrue, None, length};
 ghost use Rattle.std.specs.List.{list_all};
 ghost use Rattle.cl_types.specs.Config.{bad_number_of};
-ghost use Rattle.cl_types.specs.Places.{homes_at, is_bucket_count};
+ghost use Rattle.cl_types.specs.Places.{homes_at, is_bucket_count, space_no};
 ghost use Rattle.flat_model.specs.Opening.{has_room, held_by, pages_at, room_fault};
 ghost use Rattle.flat_model.specs.Rows.{AreFourAtMost, has_room_among};
 ghost use Rattle.flat_model.specs.State.{held_from, places_of};
@@ -37,7 +37,7 @@ pub fn page_count(config: &NodeConfig, k: u8) -> u16
 
 /// The number of the offload's space.
 pub fn space_of(k: u8) -> u16
-    ensures { result ≡ 65280 + k }
+    ensures { result ≡ space_no k }
 {
     LAST_PID + 1 + k as u16
 }
@@ -94,7 +94,7 @@ fn has_room_at(config: &NodeConfig, k: u8, page: Place) -> bool
 fn buckets_have_room(config: &NodeConfig, k: u8) -> bool
     requires good { bad_number_of config.now ≡ None }
     requires within { k < length config.now.offloads }
-    ensures { let pages = places_of (65280 + k) 1 (pages_at config.now.offloads k) in
+    ensures { let pages = places_of (space_no k) 1 (pages_at config.now.offloads k) in
         result ≡ list_all (has_room_among config.now (k + 1)) pages }
 {
     let space = space_of(k);

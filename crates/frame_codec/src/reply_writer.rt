@@ -9,6 +9,7 @@ ghost use Rattle.cl_types.specs.declared.reply.Reply.TheVariants as owned;
 ghost use Rattle.frame_model.specs.Frames.{IsHead, frame_of, is_reply_of, reply_frame, reply_value, status_of};
 ghost use Rattle.frame_codec.specs.Parts.{reply_body};
 ghost use Rattle.frame_codec.specs.Writing.{IsWritten, may_carry};
+ghost use Rattle.cl_types.specs.declared.limits.TheConstants.{REPLY_BYTES};
 
 use crate::headers::{HEADER_BYTES, REPLY, write_header};
 use crate::places::{put_u32, put_u64};
@@ -70,7 +71,7 @@ pub fn write_reply(head: &Head, kind: Kind, body: &ReplyRef, out: &mut [u8]) -> 
     requires room { FRAME_ROOM ≤ length out.old }
     requires head { IsHead head.now }
     requires body { IsTrue (is_reply_of kind (reply_of body.now)) }
-    ensures short { result ≤ 1051 }
+    ensures short { result ≤ REPLY_BYTES }
     ensures written { let frame = reply_frame head.now kind (reply_of body.now) in
         IsWritten frame result out.old out.new }
 {
@@ -86,7 +87,7 @@ pub fn write_got(head: &Head, kind: Kind, len: usize, out: &mut [u8]) -> usize
     requires head { IsHead head.now }
     requires len { IsTrue (may_carry kind len) }
     ensures len { result ≡ 27 + len }
-    ensures short { result ≤ 1051 }
+    ensures short { result ≤ REPLY_BYTES }
     ensures written { let got = owned.Got (bytes_at 27 len out.old) in
         IsWritten (reply_frame head.now kind got) result out.old out.new }
     ensures kept { drop 27 out.new ≡ drop 27 out.old }

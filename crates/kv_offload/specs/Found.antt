@@ -1,9 +1,10 @@
 -- What a search for a key tells. No public clause cites this module.
 use Rattle.std.specs.Prelude.{◌≡◌, ◌≢◌, true, ℕ, ◌+◌, ◌-◌, ◌<◌, ◌≤◌, List, [], ◌∷◌, ◌++◌}
 use Rattle.kv_offload.specs.declared.kv.Found.{Found}
-use Rattle.kv_offload.specs.declared.layout.TheConstants.{HEADS, VALUE_BYTES}
+use Rattle.kv_offload.specs.declared.layout.TheConstants.{HEADS}
 use Rattle.kv_offload.specs.Layout.{key_of, value_size, link_of, head_of}
 use Rattle.kv_offload.specs.Links.{has, behind}
+use Rattle.cl_types.specs.declared.limits.TheConstants.{VALUE_BYTES}
 
 -- no record has the key
 abbrev pub IsAbsent : ℕ → List ℕ → List ℕ → Type 0

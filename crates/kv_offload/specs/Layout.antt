@@ -2,8 +2,8 @@
 use Rattle.std.specs.Prelude.{◌≡◌, ℕ, ◌+◌, ◌*◌, ◌-◌, ◌/◌, ◌%◌, ◌<◌, ◌==◌, List, [], ◌∷◌, ◌++◌, take, if◌then◌else◌, length, slice_index, nat_lt}
 use Rattle.std.specs.Int.{from_be_bytes, to_be_bytes, w16}
 use Rattle.cl_types.specs.Bytes.{bytes_at}
-use Rattle.cl_types.specs.declared.limits.TheConstants.{PAGE_BYTES}
-use Rattle.kv_offload.specs.declared.layout.TheConstants.{HEADS, KEY_AT, KEY_CHAINS, KEY_LEN_AT, PAGE_SLOTS, SLOT_BYTES, VALUE_AT, VALUE_BYTES, VALUE_LEN_AT}
+use Rattle.cl_types.specs.declared.limits.TheConstants.{PAGE_BYTES, VALUE_BYTES}
+use Rattle.kv_offload.specs.declared.layout.TheConstants.{HEADS, KEY_AT, KEY_CHAINS, KEY_LEN_AT, PAGE_SLOTS, SLOT_BYTES, VALUE_AT, VALUE_LEN_AT}
 
 -- where the slot of this number begins: each page but the first has the next slots, one behind the other
 unfoldable pub slot_place : ℕ → ℕ

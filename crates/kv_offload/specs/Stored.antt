@@ -3,11 +3,11 @@ use Rattle.std.specs.Prelude.{◌≡◌, ℕ, zero, suc, ◌+◌, ◌*◌, ◌<�
 use Rattle.std.specs.FinMap.Entries.{put}
 use Rattle.cl_types.specs.Config.{offload_pages}
 use Rattle.cl_types.specs.declared.config.OffloadConfig.TheVariants.{Kv}
-use Rattle.cl_types.specs.declared.limits.TheConstants.{PAGE_BYTES}
+use Rattle.cl_types.specs.declared.limits.TheConstants.{PAGE_BYTES, VALUE_BYTES}
 use Rattle.cl_types.specs.declared.reply.Refusal.{Refusal}
 use Rattle.flat_model.specs.Objects.{Object, Pairs, Given, key_cmp}
 use Rattle.flat_model.specs.Objects.Object.{KvObject}
-use Rattle.kv_offload.specs.declared.layout.TheConstants.{MOST_RECORDS, VALUE_BYTES}
+use Rattle.kv_offload.specs.declared.layout.TheConstants.{MOST_RECORDS}
 use Rattle.kv_offload.specs.Layout.{View, view_of, home_in, key_of, value_of}
 use Rattle.kv_offload.specs.Links.{IsTied, behind}
 

@@ -3,10 +3,11 @@
 ghost use Rattle.std.specs.Prelude.{◌≡◌, ◌≢◌, ◌+◌, ◌*◌, ◌-◌, ◌<◌, ◌≤◌, ℕ, [], ◌∷◌, ◌++◌, length, ◌==◌, if◌then◌else◌, IfNone, IfSome, IfErr, IfOk, drop};
 ghost use Rattle.std.specs.FinMap.Entries.{find};
 ghost use Rattle.flat_model.specs.Objects.{key_cmp, kv_put, kv_get, kv_delete};
-ghost use Rattle.kv_offload.specs.declared.layout.TheConstants.{KEY_BYTES, MOST_RECORDS, VALUE_BYTES};
+ghost use Rattle.kv_offload.specs.declared.layout.TheConstants.{MOST_RECORDS};
 ghost use Rattle.kv_offload.specs.Found.{IsFound, IsAbsent};
 ghost use Rattle.kv_offload.specs.Layout.{key_of, head_of, link_of, count_of, next_free, value_size};
 ghost use Rattle.kv_offload.specs.Stored.{IsStore, HasPages, pairs_in, object_in, given_by, answered};
+ghost use Rattle.cl_types.specs.declared.limits.TheConstants.{KEY_BYTES, VALUE_BYTES};
 
 use crate::layout::{FREE, HEADS, head_of};
 use cl_types::limits::PART_BYTES;

@@ -5,9 +5,10 @@ ghost use Rattle.cl_types.specs.Bytes.{bytes_at};
 ghost use Rattle.cl_types.specs.Spaces.{IsInOnePage};
 ghost use Rattle.kv_offload.specs.Layout.{View, Says, number_at, front_of, slot_place, link_place, link_of, count_of, key_of, value_size, value_of, with_link, with_slot, with_count, hash_of, head_of};
 ghost use Rattle.kv_offload.specs.Stored.{HasPages};
+ghost use Rattle.cl_types.specs.declared.limits.TheConstants.{KEY_BYTES, VALUE_BYTES};
 
 use crate::kv::Kv;
-use cl_types::limits::PAGE_BYTES;
+use cl_types::limits::{KEY_BYTES, PAGE_BYTES, VALUE_BYTES};
 use cl_types::space::Space;
 
 /// The greatest number of records of a store, as the numbers of a configuration allow it. It is small enough that each
@@ -39,14 +40,8 @@ pub const VALUE_LEN_AT: u32 = 3;
 /// Where the key begins in a slot.
 pub const KEY_AT: u32 = 5;
 
-/// The greatest number of bytes of a key.
-pub const KEY_BYTES: u32 = 32;
-
 /// Where the value begins in a slot.
 pub const VALUE_AT: u32 = 37;
-
-/// The greatest number of bytes of a value.
-pub const VALUE_BYTES: u32 = 256;
 
 // A slot has room for the greatest record, a page for its slots, and the first page for the heads and the count.
 const _: () = prove!(KEY_AT + KEY_BYTES <= VALUE_AT);

@@ -21,4 +21,3 @@ mod kv;
 mod layout;
 
 pub use kv::Kv;
-pub use layout::{KEY_BYTES, VALUE_BYTES};

@@ -40,7 +40,7 @@ pub enum Got<'a> {
 
 // A frame that was sent, with its bytes at `from..to` of the bytes of all frames.
 #[derive(Clone, Copy)]
-struct Frame {
+struct StoredFrame {
     moment: u64,
     end: End,
     line: u32,
@@ -51,7 +51,7 @@ struct Frame {
 /// A link, and every frame that was sent over it.
 #[derive(Drop)]
 pub struct Link {
-    frames: Vec<Frame>,
+    frames: Vec<StoredFrame>,
     // The bytes of all frames, one frame after the other.
     bytes: Vec<u8>,
     handed_out: u32,
@@ -92,7 +92,7 @@ impl Link {
     {
         let from = self.bytes.len();
         self.bytes.extend_from_slice(bytes)?;
-        let frame = Frame {
+        let frame = StoredFrame {
             moment: now,
             end,
             line,

@@ -12,10 +12,10 @@ use Rattle.cl_types.specs.declared.reply.Refusal.{Refusal}
 use Rattle.cl_types.specs.declared.reply.Refusal.TheVariants.{NoOffload}
 use Rattle.cl_types.specs.declared.request.Request.TheVariants as request
 use Rattle.cl_types.specs.Bytes.{over, zeros}
-use Rattle.cl_types.specs.Places.{Place, place_cmp, is_process}
+use Rattle.cl_types.specs.Places.{Place, place_cmp, is_process, space_no}
 use Rattle.data_path.specs.declared.store.PageStore.{PageStore}
 use Rattle.data_path.specs.Spaces.{bytes_or_none, contents_of}
-use Rattle.data_path.specs.Store.{IsWhole, flat_of, memory_of, pages_in, space_no, spans_in}
+use Rattle.data_path.specs.Store.{IsWhole, flat_of, memory_of, pages_in, spans_in}
 use Rattle.data_path.proofs.Offloads.{is_offload as offload_space}
 use Rattle.flat_model.specs.Objects.{Object}
 use Rattle.flat_model.specs.Rows.{keys}

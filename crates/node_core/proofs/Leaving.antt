@@ -16,7 +16,7 @@ use Rattle.data_path.specs.Store.{memory_of}
 use Rattle.data_path.proofs.Offloads.{is_offload as offload_space}
 use Rattle.cl_types.specs.Pages.{page_of}
 use Rattle.flat_model.specs.State.{FlatState, Page, least, page_at, places, places_of}
-use Rattle.flat_model.specs.Step.{Outcome, alloc_at, free_if, if_allowed, if_pages_last, is_among, is_out_of_pages, is_range, may_change, may_read, may_write, on_bytes, on_found, outcome, with_fresh, written}
+use Rattle.flat_model.specs.Step.{Transition, alloc_at, free_if, if_allowed, if_pages_last, is_among, is_out_of_pages, is_range, may_change, may_read, may_write, on_bytes, on_found, outcome, with_fresh, written}
 use Rattle.node_core.specs.Placed.{is_offload}
 use Rattle.node_core.proofs.Parted.{all-of, not_among}
 use Rattle.node_core.proofs.Parts.{find-where}
@@ -51,7 +51,7 @@ free_leaves m pid start n true process space page outside =
     let stays : not (is_among pid start n (space, page)) ≡ true = not_among pid start n (space, page) process (ap not outside) in
     find-where (λ place. not (is_among pid start n place)) (space, page) m.map ∙ rw stays refl
 
-found_leaves : (m : FlatState) (may : Perm → Bool) (go : Page → Outcome) (o : Option Page) → ((page : Page) → LeavesOffloads m (go page).state)
+found_leaves : (m : FlatState) (may : Perm → Bool) (go : Page → Transition) (o : Option Page) → ((page : Page) → LeavesOffloads m (go page).state)
     → LeavesOffloads m (on_found m may go o).state
 found_leaves m may go None each = λ space page outside. refl
 found_leaves m may go (Some found) each = allowed (may found.perm)
@@ -60,7 +60,7 @@ found_leaves m may go (Some found) each = allowed (may found.perm)
     allowed true = each found
     allowed false = λ space page outside. refl
 
-bytes_leaves : (m : FlatState) (pid : ℕ) (addr : Addr) (may : Perm → Bool) (go : Page → Outcome) → ((page : Page) → LeavesOffloads m (go page).state)
+bytes_leaves : (m : FlatState) (pid : ℕ) (addr : Addr) (may : Perm → Bool) (go : Page → Transition) → ((page : Page) → LeavesOffloads m (go page).state)
     → LeavesOffloads m (on_bytes m pid addr may go).state
 bytes_leaves m pid addr may go each =
     found_leaves m may (λ page. if_pages_last m (is_out_of_pages m page) (go page)) (page_at m pid (page_of addr)) (λ page. lacking page (is_out_of_pages m page))

@@ -18,7 +18,7 @@ use Rattle.flat_model.specs.Objects.{Object}
 use Rattle.cl_types.specs.Pages.{page_of}
 use Rattle.flat_model.specs.Rows.{keys}
 use Rattle.flat_model.specs.State.{FlatState, Page, fits, is_mapped, least, least_from, page_at, places, places_of, used}
-use Rattle.flat_model.specs.Step.{Outcome, alloc, alloc_at, atomic, free, free_if, has_pages, if_allowed, if_pages_last, is_among, is_out_of_pages, is_range, mapped, may_change, may_read, may_write, on_bytes, on_found, on_page, puts, read, unmapped, with_fresh, write, written}
+use Rattle.flat_model.specs.Step.{Transition, alloc, alloc_at, atomic, free, free_if, has_pages, if_allowed, if_pages_last, is_among, is_out_of_pages, is_range, mapped, may_change, may_read, may_write, on_bytes, on_found, on_page, puts, read, unmapped, with_fresh, write, written}
 use Rattle.flat_model.proofs.LeastLemmas.{least_is}
 use Rattle.data_path.specs.Store.{flat_of}
 use Rattle.node_core.specs.Parted.{IsMemory, flat_outcome}
@@ -178,7 +178,7 @@ unmapped-flat objects m pid start n process =
 
 -- ---- what comes of a request
 -- a page that is found is gone on with in both alike
-found-flat : (objects : List Object) (m : FlatState) (may : Perm → Bool) (go flat_go : Page → Outcome) (o : Option Page)
+found-flat : (objects : List Object) (m : FlatState) (may : Perm → Bool) (go flat_go : Page → Transition) (o : Option Page)
     → ((page : Page) → flat_go page ≡ flat_outcome objects (go page))
     → on_found (flat_of objects m) may flat_go o ≡ flat_outcome objects (on_found m may go o)
 found-flat objects m may go flat_go None same = refl
@@ -188,14 +188,14 @@ found-flat objects m may go flat_go (Some page) same = allowed (may page.perm)
     allowed true = same page
     allowed false = refl
 
-page-flat : (objects : List Object) (m : FlatState) (pid : ℕ) (addr : Addr) (may : Perm → Bool) (go flat_go : Page → Outcome) → is_process pid ≡ true
+page-flat : (objects : List Object) (m : FlatState) (pid : ℕ) (addr : Addr) (may : Perm → Bool) (go flat_go : Page → Transition) → is_process pid ≡ true
     → ((page : Page) → flat_go page ≡ flat_outcome objects (go page))
     → on_page (flat_of objects m) pid addr may flat_go ≡ flat_outcome objects (on_page m pid addr may go)
 page-flat objects m pid addr may go flat_go process same =
     ap (on_found (flat_of objects m) may flat_go) (page_at-flat objects m pid (page_of addr) process)
     ∙ found-flat objects m may go flat_go (page_at m pid (page_of addr)) same
 
-bytes-flat : (objects : List Object) (m : FlatState) (pid : ℕ) (addr : Addr) (may : Perm → Bool) (go flat_go : Page → Outcome) → IsMemory m
+bytes-flat : (objects : List Object) (m : FlatState) (pid : ℕ) (addr : Addr) (may : Perm → Bool) (go flat_go : Page → Transition) → IsMemory m
     → is_process pid ≡ true → ((page : Page) → flat_go page ≡ flat_outcome objects (go page))
     → on_bytes (flat_of objects m) pid addr may flat_go ≡ flat_outcome objects (on_bytes m pid addr may go)
 bytes-flat objects m pid addr may go flat_go is process same =

@@ -7,7 +7,7 @@ use Rattle.data_path.specs.declared.store.PageStore.{PageStore}
 use Rattle.data_path.specs.Spaces.{contents_of}
 use Rattle.data_path.specs.Store.{IsWhole, flat_of, memory_of}
 use Rattle.flat_model.specs.State.{FlatState}
-use Rattle.flat_model.specs.Step.{Outcome, outcome}
+use Rattle.flat_model.specs.Step.{Transition, outcome}
 use Rattle.page_pool.specs.PoolPages.{IsReady}
 use Rattle.offload_host.specs.Held.{HoldsObject}
 use Rattle.node_core.specs.Placed.{is_offload}
@@ -31,7 +31,7 @@ module _ (s : PageStore) (offloads : List OffloadConfig) (pid : ℕ) (r : Reques
     objects_stay = objects_same (λ k. contents_of k s) (λ k. contents_of k t) 0 offloads (λ k above. contents_stay s t k spaces leaves)
 
     pub state_seen : IsWhole s → state_in offloads t ≡ (outcome (state_in offloads s) pid r).state
-    state_seen whole = (λ i. flat_of (objects_stay i) (memory i)) ∙ sym (ap (λ (o : Outcome). o.state) (outcome_seen whole))
+    state_seen whole = (λ i. flat_of (objects_stay i) (memory i)) ∙ sym (ap (λ (o : Transition). o.state) (outcome_seen whole))
 
     pub store_stays : IsStore s offloads → IsWhole t → IsReady t.pool → IsStore t offloads
     store_stays is whole ready = record {

@@ -18,15 +18,15 @@ use Rattle.flat_model.specs.Objects.Object.{KvObject}
 use Rattle.kv_offload.specs.Stored.{pairs_in}
 use Rattle.flat_model.specs.State.{FlatState}
 use Rattle.translate_cache.specs.Cached.{Cached, entry_of}
-use Rattle.node_model.specs.Nodes.{Node, Said, Gives, IsBusy, NodeAnswer, Refuses, Says}
+use Rattle.node_model.specs.Nodes.{NodeState, ItemAnswer, Gives, IsBusy, NodeAnswer, Refuses, Says}
 use Rattle.node_core.specs.Placed.{page_used}
 use Rattle.node_core.specs.declared.outcome.Outcome.{Outcome}
 use Rattle.node_core.specs.declared.outcome.Outcome.TheVariants.{Replied, Busy, Bad}
-use Rattle.node_core.specs.declared.placed.TheConstants.{REPLY_BYTES}
+use Rattle.cl_types.specs.declared.limits.TheConstants.{REPLY_BYTES}
 
 -- the keeping node, the latest moment that it was given, and the entries of its page table that were used of late
 pub record KeptNode : Type 0 where
-  pub node : Node
+  pub node : NodeState
   pub last : ℕ
   pub cache : Cached
 
@@ -47,14 +47,14 @@ TellsReply head kind how reply (Replied len told status) out =
 TellsReply head kind how reply other out = ⊥
 
 -- the outcome tells what is said to the item
-abbrev pub TellsSaid : Item → Said → Outcome → List ℕ → Type 0
+abbrev pub TellsSaid : Item → ItemAnswer → Outcome → List ℕ → Type 0
 TellsSaid item (Gives how reply) outcome out = TellsReply item.head (kind_of item.request) how reply outcome out
 TellsSaid item (IsBusy oldest now) (Busy since at) out = (since ≡ oldest) × (at ≡ now)
 -- nothing else is told
 TellsSaid item said outcome out = ⊥
 
 -- the outcome tells what is said to each of the items, which are one
-abbrev pub TellsEach : List Item → List Said → Outcome → List ℕ → Type 0
+abbrev pub TellsEach : List Item → List ItemAnswer → Outcome → List ℕ → Type 0
 TellsEach (item ∷ []) (said ∷ []) outcome out = TellsSaid item said outcome out
 TellsEach items said outcome out = ⊥
 

@@ -5,10 +5,10 @@ use Rattle.cl_types.specs.Places.{Place, place_cmp, is_process}
 use Rattle.data_path.specs.Store.{flat_of}
 use Rattle.flat_model.specs.Objects.{Object}
 use Rattle.flat_model.specs.State.{FlatState, Page}
-use Rattle.flat_model.specs.Step.{Outcome}
+use Rattle.flat_model.specs.Step.{Transition}
 
 -- what comes of a request, with the state after it as that of the node
-abbrev pub flat_outcome : List Object → Outcome → Outcome
+abbrev pub flat_outcome : List Object → Transition → Transition
 flat_outcome objects o = record { reply = o.reply; state = flat_of objects o.state }
 
 -- a memory in order, in which the pages of the offloads have bytes

@@ -3,10 +3,10 @@ use Rattle.std.specs.Prelude.{ℕ, ◌+◌, ◌≡◌, ◌==◌, not, List, [], 
 use Rattle.std.specs.FinMap.Entries.{where_key}
 use Rattle.cl_types.specs.declared.config.OffloadConfig.{OffloadConfig}
 use Rattle.cl_types.specs.Config.{offload_pages}
-use Rattle.cl_types.specs.Places.{place_cmp}
+use Rattle.cl_types.specs.Places.{place_cmp, space_no}
 use Rattle.data_path.specs.declared.store.PageStore.{PageStore}
 use Rattle.data_path.specs.Spaces.{contents_of}
-use Rattle.data_path.specs.Store.{IsWhole, flat_of, memory_of, space_no}
+use Rattle.data_path.specs.Store.{IsWhole, flat_of, memory_of}
 use Rattle.flat_model.specs.Objects.{Object}
 use Rattle.flat_model.specs.State.{FlatState}
 use Rattle.offload_host.specs.Held.{HoldsObject, object_of}

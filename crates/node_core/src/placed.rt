@@ -3,15 +3,15 @@
 ghost use Rattle.std.specs.Prelude.{◌≡◌, ◌+◌, ◌<◌, ◌≤◌, ◌∷◌, drop, length, IsTrue};
 ghost use Rattle.cl_types.specs.SmallReplies.{value_of};
 ghost use Rattle.cl_types.specs.Kinds.{kind_number};
-ghost use Rattle.cl_types.specs.declared.limits.TheConstants.{FRAME_ROOM};
+ghost use Rattle.cl_types.specs.declared.limits.TheConstants.{FRAME_ROOM, REPLY_BYTES};
 ghost use Rattle.frame_model.specs.Frames.{IsHead, reply_frame};
 ghost use Rattle.frame_codec.specs.Writing.{IsWritten};
 ghost use Rattle.node_core.specs.Placed.{may_place, placed_in};
-ghost use Rattle.node_core.specs.declared.placed.TheConstants.{REPLY_BYTES, SMALL_REPLY_BYTES, STATUS_AT, VALUE_AT};
+ghost use Rattle.node_core.specs.declared.placed.TheConstants.{SMALL_REPLY_BYTES, STATUS_AT, VALUE_AT};
 
 use cl_types::call::Kind;
 use cl_types::frame::Head;
-use cl_types::limits::{FRAME_ROOM, PART_BYTES};
+use cl_types::limits::{FRAME_ROOM, PART_BYTES, REPLY_BYTES};
 use cl_types::numbers::Addr;
 use cl_types::reply::{Refusal, ReplyRef};
 use cl_types::small_reply::SmallReply;
@@ -25,14 +25,11 @@ pub const STATUS_AT: usize = HEADER_BYTES;
 /// The place of a reply's value in its frame: behind the status.
 pub const VALUE_AT: usize = STATUS_AT + 1;
 
-/// The greatest number of bytes of a reply's frame: its value is at most the bytes of a part.
-pub const REPLY_BYTES: usize = VALUE_AT + PART_BYTES as usize;
-
 /// The greatest number of bytes of a reply's frame that is kept: a `SmallReply` has a value of at most 16 bytes.
 pub const SMALL_REPLY_BYTES: usize = VALUE_AT + 16;
 
-// The buffer for a frame has room for each reply.
-const _: () = prove!(REPLY_BYTES <= FRAME_ROOM);
+// The greatest reply carries the bytes of a part.
+const _: () = prove!(REPLY_BYTES == VALUE_AT + PART_BYTES as usize);
 
 /// A reply of which the bytes that were got, where there are any, stand at their place in the frame.
 #[derive(Clone, Copy, Debug, PartialEq, Eq)]

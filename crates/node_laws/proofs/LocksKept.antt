@@ -29,7 +29,7 @@ use Rattle.cl_types.specs.Pages.{page_of, offset_of, word_at, word_after}
 use Rattle.cl_types.specs.Ranges.{is_in_range, is_good_address, is_piece, are_bytes, has_words}
 use Rattle.flat_model.specs.Run.{after, after_entry, IsRunFrom}
 use Rattle.flat_model.specs.State.{FlatState, Page, page_at, bytes_of, is_mapped, fits, places, places_of, opening}
-use Rattle.flat_model.specs.Step.{Outcome, refused, with_fresh, is_range, is_among, free_if, may_write, may_change, is_out_of_pages, if_allowed, on_found, if_pages_last, on_bytes, puts, write, atomic, given, on_object, offload, MayAlloc, MayReply, alloc_after, state_after}
+use Rattle.flat_model.specs.Step.{Transition, refused, with_fresh, is_range, is_among, free_if, may_write, may_change, is_out_of_pages, if_allowed, on_found, if_pages_last, on_bytes, puts, write, atomic, given, on_object, offload, MayAlloc, MayReply, alloc_after, state_after}
 use Rattle.node_laws.specs.Locks.{TakesLock, is_lock, may_release, is_refused, releases, LawOfLocks}
 use Rattle.lemmas.proofs.SameParts.{and_left, and_right, eqb_is, eqb_same}
 use Rattle.lemmas.proofs.Pieces.{piece_kept_before, piece_kept_behind, piece_put}
@@ -69,7 +69,7 @@ whole_put m k v whole len = record {
 }
 
 -- ---- what a step on a page's bytes may do: a refusal, or a change of the page
-pub bytes_by : (P : Outcome → Type 0) (s : FlatState) (pid : ℕ) (addr : Addr) (may : Perm → Bool) (go : Page → Outcome) → ((r : Refusal) → P (refused s r))
+pub bytes_by : (P : Transition → Type 0) (s : FlatState) (pid : ℕ) (addr : Addr) (may : Perm → Bool) (go : Page → Transition) → ((r : Refusal) → P (refused s r))
     → ((page : Page) → page_at s pid (page_of addr) ≡ Some page → P (go page)) → P (on_bytes s pid addr may go)
 bytes_by P s pid addr may go refuses goes = found (page_at s pid (page_of addr)) refl where
   last : (page : Page) → page_at s pid (page_of addr) ≡ Some page → (b : Bool) → P (if_pages_last s b (go page))

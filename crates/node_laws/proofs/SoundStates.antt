@@ -33,7 +33,7 @@ use Rattle.cl_types.specs.Pages.{page_of, offset_of, word_at, word_after}
 use Rattle.cl_types.specs.Ranges.{is_in_range, is_good_address, is_piece, are_bytes, is_word}
 use Rattle.flat_model.specs.Run.{after, after_entry, IsRunFrom}
 use Rattle.flat_model.specs.State.{FlatState, Page, page_at, bytes_of, places, places_of, opening}
-use Rattle.flat_model.specs.Step.{Outcome, with_fresh, is_range, is_among, free_if, may_read, may_write, may_change, if_allowed, on_found, puts, read, given, on_object, MayAlloc, MayReply, state_after}
+use Rattle.flat_model.specs.Step.{Transition, with_fresh, is_range, is_among, free_if, may_read, may_write, may_change, if_allowed, on_found, puts, read, given, on_object, MayAlloc, MayReply, state_after}
 use Rattle.node_laws.specs.RepliesFit.{IsReplyTo, RepliesFit}
 use Rattle.lemmas.proofs.Passes.{take_passes, drop_passes, append_passes, both}
 use Rattle.lemmas.proofs.Lists.{each_filter_from, each_slice_get, none_some}
@@ -299,7 +299,7 @@ alloc_fits s pid n perm (Got bytes) some may = absurd may
 -- a Read's bytes
 read_fits : (s : FlatState) (pid : ℕ) (addr : Addr) (n : ℕ) → IsTrue (is_in_range (request.Read addr n)) → IsSound s → IsReplyTo (request.Read addr n) (read s pid addr n).reply
 read_fits s pid addr n range sound = found (page_at s pid (page_of addr)) refl where
-  go : Page → Outcome
+  go : Page → Transition
   go page = record { reply = Got (bytes_at (offset_of addr) n (bytes_of page)); state = s }
 
   sized : (page : Page) → page_at s pid (page_of addr) ≡ Some page → IsReplyTo (request.Read addr n) (Got (bytes_at (offset_of addr) n (bytes_of page)))

@@ -7,7 +7,7 @@ use Rattle.cl_types.specs.declared.frame.How.TheVariants.{Executed}
 use Rattle.cl_types.specs.declared.limits.TheConstants.{SPAN}
 use Rattle.frame_model.specs.Frames.{Item}
 use Rattle.node_model.specs.Handling.{latest}
-use Rattle.node_model.specs.Nodes.{Name, Record, Node, IsSetUp, Said, Gives, NodeStep, NodeAnswer, name_of, same_name, record_named, step_item, items_read, node_answer, node_given, keep_every, ideal}
+use Rattle.node_model.specs.Nodes.{Name, Record, NodeState, IsSetUp, ItemAnswer, Gives, NodeStep, NodeAnswer, name_of, same_name, record_named, step_item, items_read, node_answer, node_given, keep_every, ideal}
 use Rattle.lemmas.specs.Machines.{Machine, answers_over}
 
 -- what a node is given: bytes, each at a moment
@@ -16,28 +16,28 @@ Given = ℕ × List ℕ
 
 -- ---- what a node says and does over all that it is given; keep says which records stay
 -- the name of an item, where it was executed
-abbrev pub if_executed : Said → Name → List Name
+abbrev pub if_executed : ItemAnswer → Name → List Name
 if_executed (Gives Executed reply) name = name ∷ []
 if_executed other name = []
 
 module _ (keep : ℕ → List Record → List Record) where
   -- a node as a machine
-  abbrev pub node_machine : Machine Node Given NodeAnswer
+  abbrev pub node_machine : Machine NodeState Given NodeAnswer
   node_machine = record { answer = λ n g. node_answer keep n g.0 g.1; after = λ n g. node_given keep n g.0 g.1 }
 
   -- the answers to all that it is given, in order
-  abbrev pub answers_to : Node → List Given → List NodeAnswer
+  abbrev pub answers_to : NodeState → List Given → List NodeAnswer
   answers_to = answers_over node_machine
 
   -- the names of the items that were executed, in order
-  abbrev pub executed_in : Node → ℕ → List Item → List Name
+  abbrev pub executed_in : NodeState → ℕ → List Item → List Name
   executed_in n t [] = []
   executed_in n t (i ∷ is) =
       let step : NodeStep = step_item keep n t i in
       if_executed step.said (name_of i) ++ executed_in step.node t is
 
   -- the names of the items that were executed in all that it is given, in order
-  abbrev pub executed_over : Node → List Given → List Name
+  abbrev pub executed_over : NodeState → List Given → List Name
   executed_over n [] = []
   executed_over n (g ∷ gs) =
       executed_in n g.0 (items_read g.1) ++ executed_over (node_given keep n g.0 g.1) gs
@@ -49,18 +49,18 @@ AreInTime last [] = Unit {0}
 AreInTime last (g ∷ gs) = (last ≤ g.0) × AreInTime g.0 gs
 
 -- a changing item whose name is recorded comes less than the span after it was recorded
-abbrev pub IsInSpan : Node → ℕ → Item → Type 0
+abbrev pub IsInSpan : NodeState → ℕ → Item → Type 0
 IsInSpan n t i =
     is_changing i.request ≡ true
     → (r : Record) → record_named (name_of i) n.records ≡ Some r → t < r.moment + SPAN
 
 -- all items of a frame are in the span, each judged after those before it
-abbrev pub AreInSpan : Node → ℕ → List Item → Type 0
+abbrev pub AreInSpan : NodeState → ℕ → List Item → Type 0
 AreInSpan n t [] = Unit {0}
 AreInSpan n t (i ∷ is) = IsInSpan n t i × AreInSpan (ideal n t i).node t is
 
 -- all frames are in the span, by the records of the node that keeps all
-abbrev pub KeepSpan : Node → List Given → Type 0
+abbrev pub KeepSpan : NodeState → List Given → Type 0
 KeepSpan n [] = Unit {0}
 KeepSpan n (g ∷ gs) =
     AreInSpan n g.0 (items_read g.1) × KeepSpan (node_given keep_every n g.0 g.1) gs
@@ -75,7 +75,7 @@ AreNew so_far (name ∷ names) =
 -- a node that keeps the latest replies answers as one that keeps all, and executes no name twice
 abbrev pub LawOfSpan : Type 0
 LawOfSpan =
-    (n : Node) (last : ℕ) (given : List Given)
+    (n : NodeState) (last : ℕ) (given : List Given)
     → IsSetUp n last → AreInTime last given → KeepSpan n given
     → (answers_to latest n given ≡ answers_to keep_every n given)
     × AreNew (map (λ (r : Record). r.name) n.records) (executed_over latest n given)

@@ -4,7 +4,7 @@ use Rattle.cl_types.specs.declared.reply.Reply.{Reply}
 use Rattle.cl_types.specs.Times.{is_young}
 use Rattle.frame_model.specs.Frames.{Item}
 use Rattle.flat_model.specs.State.{FlatState}
-use Rattle.flat_model.specs.Step.{Outcome, outcome}
+use Rattle.flat_model.specs.Step.{Transition, outcome}
 
 -- ---- the records that are kept
 -- of a list, the latest, so many
@@ -44,5 +44,5 @@ handling true None t oldest = on_oldest t oldest
 
 -- ---- execution
 -- the flat machine's reply to the item, and the state after it
-abbrev pub item_outcome : FlatState → Item → Outcome
+abbrev pub item_outcome : FlatState → Item → Transition
 item_outcome s i = outcome s i.head.pid i.request

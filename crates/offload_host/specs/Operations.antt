@@ -4,9 +4,9 @@ use Rattle.std.specs.FinMap.Entries.{find}
 use Rattle.std.specs.Int.{to_be_bytes, w32}
 use Rattle.cl_types.specs.declared.reply.Refusal.TheVariants.{BadOp}
 use Rattle.flat_model.specs.Objects.{Given, KvObject, Pairs, key_cmp, kv_delete, kv_get, kv_put}
-use Rattle.kv_offload.specs.declared.layout.TheConstants.{KEY_BYTES, VALUE_BYTES}
 use Rattle.offload_host.specs.declared.operation.Operation.{Operation}
 use Rattle.offload_host.specs.declared.operation.Operation.TheVariants.{Put, Get, Delete, Count}
+use Rattle.cl_types.specs.declared.limits.TheConstants.{KEY_BYTES, VALUE_BYTES}
 
 -- what an operation gives of a store of so many records with these pairs
 abbrev pub given_of : Operation → ℕ → Pairs → Given

@@ -2,10 +2,10 @@
 
 ghost use Rattle.std.specs.Prelude.{◌≡◌, ◌≤◌, ◌==◌, ◌&&◌, ℕ, IfSome, IsTrue, length};
 ghost use Rattle.flat_model.specs.Objects.{Pairs, is_keyed, key_in, kv_step, value_in};
-ghost use Rattle.kv_offload.specs.declared.layout.TheConstants.{KEY_BYTES, VALUE_BYTES};
 ghost use Rattle.offload_host.specs.Operations.{HasLengths, given_if};
+ghost use Rattle.cl_types.specs.declared.limits.TheConstants.{KEY_BYTES, VALUE_BYTES};
 
-use kv_offload::{KEY_BYTES, VALUE_BYTES};
+use cl_types::limits::{KEY_BYTES, VALUE_BYTES};
 
 // The numbers of the operations.
 const PUT: u8 = 1;

@@ -9,7 +9,7 @@ use Rattle.cl_types.specs.declared.schedule.What.{What}
 use Rattle.cl_types.specs.declared.schedule.What.TheVariants.{ExtraWord, MissingWord, UnknownWord}
 use Rattle.texts.specs.Text.{Text, is_text}
 use Rattle.texts.specs.Words.{N, Value, argument_in, arguments_in, values_in, with_first}
-use Rattle.texts.specs.Grammar.{CallForm, Happens, Said, by_word, call_form, call_forms, called_by, in_call, line_forms, of_client, said_by, said_in_form, u16}
+use Rattle.texts.specs.Grammar.{CallForm, Happens, Statement, by_word, call_form, call_forms, called_by, in_call, line_forms, of_client, said_by, said_in_form, u16}
 use Rattle.schedule_text.specs.Arguments.{values_after}
 use Rattle.schedule_text.specs.Calls.{call_after, call_words, form_of}
 use Rattle.schedule_text.specs.Lines.{begun_of, joined, line_words}
@@ -43,7 +43,7 @@ one_more : (a b : ℕ) → nat_lt (suc a) (suc b) ≡ nat_lt a b
 one_more a b = grind (arith, nat_tests)
 
 call_said_by : (client : ClientNo) (call : Option CallText)
-    → elim (option_map (λ (c : CallText). Happens (event.Call client c)) call) as (λ _. Result Said What) [ None ↦ Err UnknownWord | Some said ↦ Ok said ]
+    → elim (option_map (λ (c : CallText). Happens (event.Call client c)) call) as (λ _. Result Statement What) [ None ↦ Err UnknownWord | Some said ↦ Ok said ]
     ≡ joined (Ok client) (elim call as (λ _. Result CallText What) [ None ↦ Err UnknownWord | Some c ↦ Ok c ])
 call_said_by client None = refl
 call_said_by client (Some call) = refl

@@ -5,7 +5,7 @@ use Rattle.cl_types.specs.declared.schedule.Schedule.{Schedule}
 use Rattle.cl_types.specs.declared.schedule.What.{What}
 use Rattle.texts.specs.Text.{Text, first_word, is_empty, is_skipped, lines_in, words_in}
 use Rattle.frame_model.specs.Faults.{first_fault}
-use Rattle.texts.specs.Grammar.{Fault, Reading, Said, at_end, judged_line, judged_said, line_read, place_faults, read_more, said_by_words, said_faults, schedule_from, schedule_of}
+use Rattle.texts.specs.Grammar.{Fault, Reading, Statement, at_end, judged_line, judged_said, line_read, place_faults, read_more, said_by_words, said_faults, schedule_from, schedule_of}
 use Rattle.schedule_text.specs.Reading.{Reads, too_long_of}
 use Rattle.schedule_text.specs.Readings.{Gives, line_said, sound}
 use Rattle.schedule_text.specs.Telling.{LeavesOf}
@@ -18,16 +18,16 @@ is_empty-length [] = refl
 is_empty-length (x ∷ xs) = grind (arith, nat_tests)
 
 -- ---- a judged line
-abbrev pub added : Reading → ℕ → Text → Result Said What → Result Reading Fault
+abbrev pub added : Reading → ℕ → Text → Result Statement What → Result Reading Fault
 added r number line (Err what) = Err (number, what)
 added r number line (Ok said) = Ok (read_more r number line said)
 
-judged_said_by : (r : Reading) (number : ℕ) (line : Text) (said : Result Said What) → judged_said r number line said ≡ added r number line (sound r said)
+judged_said_by : (r : Reading) (number : ℕ) (line : Text) (said : Result Statement What) → judged_said r number line said ≡ added r number line (sound r said)
 judged_said_by r number line (Err what) = refl
 judged_said_by r number line (Ok said) = by (first_fault (said_faults r said))
   where
     by : (fault : Option What) → elim fault as (λ _. Result Reading Fault) [ Some what ↦ Err (number, what) | None ↦ Ok (read_more r number line said) ]
-        ≡ added r number line (elim fault as (λ _. Result Said What) [ Some what ↦ Err what | None ↦ Ok said ])
+        ≡ added r number line (elim fault as (λ _. Result Statement What) [ Some what ↦ Err what | None ↦ Ok said ])
     by (Some what) = refl
     by None = refl
 
@@ -36,20 +36,20 @@ judged_line_said : (r : Reading) (number : ℕ) (line : Text) → judged_line r 
 judged_line_said r number line = by (first_fault (place_faults r line (first_word (words_in line))))
   where
     by : (fault : Option What) → elim fault as (λ _. Result Reading Fault) [ Some what ↦ Err (number, what) | None ↦ judged_said r number line (said_by_words (words_in line)) ]
-        ≡ added r number line (elim fault as (λ _. Result Said What) [ Some what ↦ Err what | None ↦ sound r (said_by_words (words_in line)) ])
+        ≡ added r number line (elim fault as (λ _. Result Statement What) [ Some what ↦ Err what | None ↦ sound r (said_by_words (words_in line)) ])
     by (Some what) = refl
     by None = judged_said_by r number line (said_by_words (words_in line))
 
-not_skipped : (r : Reading) (number : ℕ) (line : Text) (given : Result Said What) → false ≡ is_skipped line → line_said r line ≡ given → line_read r number line ≡ added r number line given
+not_skipped : (r : Reading) (number : ℕ) (line : Text) (given : Result Statement What) → false ≡ is_skipped line → line_said r line ≡ given → line_read r number line ≡ added r number line given
 not_skipped r number line given kept said =
     let judged : line_read r number line ≡ judged_line r number line = rw (← kept, line_read) refl in
-    judged ∙ judged_line_said r number line ∙ ap (λ (o : Result Said What). added r number line o) said
+    judged ∙ judged_line_said r number line ∙ ap (λ (o : Result Statement What). added r number line o) said
 
 -- a bad line, and a good one
 pub line_bad : (r : Reading) (number : ℕ) (line : Text) (what : What) → false ≡ is_skipped line → line_said r line ≡ Err what → line_read r number line ≡ Err (number, what)
 line_bad r number line what kept said = not_skipped r number line (Err what) kept said
 
-pub line_good : (r : Reading) (number : ℕ) (line : Text) (said : Said) → false ≡ is_skipped line → line_said r line ≡ Ok said → line_read r number line ≡ Ok (read_more r number line said)
+pub line_good : (r : Reading) (number : ℕ) (line : Text) (said : Statement) → false ≡ is_skipped line → line_said r line ≡ Ok said → line_read r number line ≡ Ok (read_more r number line said)
 line_good r number line said kept given = not_skipped r number line (Ok said) kept given
 
 -- ---- lines, one after another

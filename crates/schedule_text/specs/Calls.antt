@@ -9,7 +9,7 @@ use Rattle.texts.specs.Grammar.{CallForm, called_by, u32, u64, alloc_call, free_
 use Rattle.schedule_text.specs.Arguments.{arguments_after}
 use Rattle.schedule_text.specs.Parts.{words_left}
 use Rattle.schedule_text.specs.Telling.{Tells}
-use Rattle.schedule_text.specs.declared.fault.Stop.{Stop}
+use Rattle.schedule_text.specs.declared.fault.LineFault.{LineFault}
 use Rattle.schedule_text.specs.declared.calls.CallWord.{CallWord}
 use Rattle.schedule_text.specs.declared.calls.CallWord.TheVariants as word
 
@@ -38,5 +38,5 @@ abbrev pub call_after : Option What → CallForm → List Text → Result CallTe
 call_after before f texts = called_by f.calls (arguments_after before f.arguments texts)
 
 -- the call of a word, of the words behind it, where nothing is wrong with the word before
-abbrev pub GivesCall : Option What → CallWord → Option (Bor Text) → Result CallText Stop → Type 0
+abbrev pub GivesCall : Option What → CallWord → Option (Bor Text) → Result CallText LineFault → Type 0
 GivesCall before name rest result = Tells result (call_after before (form_of name) (words_left rest))

@@ -1,7 +1,6 @@
 pub mod Arguments
 pub mod Calls
 pub mod Digits
-pub mod Kinds
 pub mod Lines
 pub mod Parts
 pub mod Reading

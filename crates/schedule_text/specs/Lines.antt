@@ -11,11 +11,12 @@ use Rattle.texts.specs.Grammar.{Begun, bare, client_says, form, in_call, in_deli
 use Rattle.texts.specs.Grammar as grammar
 use Rattle.schedule_text.specs.Parts.{words_left}
 use Rattle.schedule_text.specs.Telling.{TellsBy}
-use Rattle.schedule_text.specs.declared.fault.Stop.{Stop}
+use Rattle.schedule_text.specs.declared.fault.LineFault.{LineFault}
 use Rattle.schedule_text.specs.declared.said.LineWord.{LineWord}
 use Rattle.schedule_text.specs.declared.said.LineWord.TheVariants as word
-use Rattle.schedule_text.specs.declared.said.Said.{Said}
-use Rattle.schedule_text.specs.declared.said.Said.TheVariants as said
+use Rattle.schedule_text.specs.declared.said.Statement.{Statement}
+use Rattle.schedule_text.specs.declared.said.Statement.TheVariants as said
+use Rattle.cl_types.specs.declared.limits.TheConstants.{MOST_TICKS}
 
 -- the first words, in the order of the grammar
 abbrev pub line_words : List (Text × LineWord)
@@ -33,30 +34,30 @@ begun_of ws word.Call = in_call ws
 begun_of ws word.Poll = (form (u16 ∷ []) (of_number (λ n. event.Poll (record { 0 = n }))), ws)
 begun_of ws word.Deliver = in_deliver ws
 begun_of ws word.Drop = (form [] (bare event.Drop), ws)
-begun_of ws word.Tick = (form (Number 1 1000000000 ∷ []) (of_number event.Tick), ws)
+begun_of ws word.Tick = (form (Number 1 MOST_TICKS ∷ []) (of_number event.Tick), ws)
 begun_of ws word.Peek = (form (Number 1 65279 ∷ Address ∷ Number 1 1024 ∷ []) peek_says, ws)
 begun_of ws word.Show = (form (Number 1 4294967295 ∷ []) (of_number event.Show), ws)
 begun_of ws word.Stat = (form [] (bare event.Stat), ws)
 begun_of ws word.Garbage = in_garbage ws
 
 -- what a line says, as the grammar has it
-abbrev pub said_of : Said → grammar.Said
+abbrev pub said_of : Statement → grammar.Statement
 said_of (said.Node pages buckets ring retry) = grammar.Node pages buckets ring retry
 said_of (said.Offload config) = grammar.Offload config
 said_of (said.Client number pid) = grammar.Client number pid
 said_of (said.Happens event) = grammar.Happens event
 
 -- what a line says by its client and its call
-abbrev pub joined : Result ClientNo What → Result CallText What → Result grammar.Said What
+abbrev pub joined : Result ClientNo What → Result CallText What → Result grammar.Statement What
 joined (Ok client) (Ok call) = Ok (grammar.Happens (event.Call client call))
 joined (Ok client) (Err what) = Err what
 joined (Err what) (Ok call) = Err what
 joined (Err what) (Err other) = Err other
 
 -- the line of a word says this, with the words behind it
-abbrev pub Says : LineWord → Option (Bor Text) → Result Said Stop → Type 0
+abbrev pub Says : LineWord → Option (Bor Text) → Result Statement LineFault → Type 0
 Says name rest result = TellsBy said_of result (said_in_form (begun_of (words_left rest) name))
 
 -- a client and its call say this
-abbrev pub SaysCall : Result ClientNo What → Result CallText What → Result Said Stop → Type 0
+abbrev pub SaysCall : Result ClientNo What → Result CallText What → Result Statement LineFault → Type 0
 SaysCall client call result = TellsBy said_of result (joined client call)

@@ -2,15 +2,15 @@
 use Rattle.std.specs.Prelude.{◌≡◌, ℕ, ◌+◌, nat_lt, true, false, List, length, if◌then◌else◌, Option, Some, None, Result, Ok, Err}
 use Rattle.texts.specs.Text.{lines_in}
 use Rattle.texts.specs.Grammar.{Fault}
-use Rattle.schedule_text.specs.declared.fault.TheConstants.{MOST_BYTES, MOST_LINES}
 use Rattle.schedule_text.specs.declared.fault.ScheduleFault.{ScheduleFault}
 use Rattle.schedule_text.specs.declared.fault.ScheduleFault.TheVariants.{Line, TooLong, NoMemory}
+use Rattle.cl_types.specs.declared.limits.TheConstants.{INPUT_BYTES, INPUT_LINES}
 
 -- the fault of bytes that are too many, or whose lines are
 abbrev pub too_long_of : List ℕ → Option ScheduleFault
 too_long_of bytes =
-    if nat_lt MOST_BYTES (length bytes) then Some (TooLong true (MOST_BYTES + 1))
-    else if nat_lt MOST_LINES (length (lines_in bytes)) then Some (TooLong false (MOST_LINES + 1))
+    if nat_lt INPUT_BYTES (length bytes) then Some (TooLong true (INPUT_BYTES + 1))
+    else if nat_lt INPUT_LINES (length (lines_in bytes)) then Some (TooLong false (INPUT_LINES + 1))
     else None
 
 -- what was read, or the first bad line, is what the grammar gives, where the bytes aren't too long

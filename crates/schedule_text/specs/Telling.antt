@@ -2,21 +2,21 @@
 use Rattle.std.specs.Prelude.{◌≡◌, Result, Ok, Err}
 use Rattle.cl_types.specs.declared.schedule.What.{What}
 use Rattle.texts.specs.Words.{Value}
-use Rattle.schedule_text.specs.declared.fault.Stop.{Stop}
-use Rattle.schedule_text.specs.declared.fault.Stop.TheVariants.{Bad, NoMemory}
+use Rattle.schedule_text.specs.declared.fault.LineFault.{LineFault}
+use Rattle.schedule_text.specs.declared.fault.LineFault.TheVariants.{Bad, NoMemory}
 use Rattle.schedule_text.specs.declared.fault.ScheduleFault.{ScheduleFault}
 use Rattle.schedule_text.specs.declared.fault.ScheduleFault.TheVariants.{Line, TooLong}
 use Rattle.schedule_text.specs.declared.fault.ScheduleFault.TheVariants as fault
 use Rattle.texts.specs.Grammar.{Fault}
 
 -- what was read is what the grammar gives, with f of what was read as its value
-abbrev pub TellsBy : {X Y : Type 0} → (X → Y) → Result X Stop → Result Y What → Type 0
+abbrev pub TellsBy : {X Y : Type 0} → (X → Y) → Result X LineFault → Result Y What → Type 0
 TellsBy f (Ok x) given = given ≡ Ok (f x)
 TellsBy f (Err (Bad what)) given = given ≡ Err what
 TellsBy f (Err NoMemory) given = Unit {0}
 
 -- the same of what stands for itself
-abbrev pub Tells : {X : Type 0} → Result X Stop → Result X What → Type 0
+abbrev pub Tells : {X : Type 0} → Result X LineFault → Result X What → Type 0
 Tells result given = TellsBy (λ x. x) result given
 
 -- an argument's value, or its fault

@@ -9,7 +9,7 @@ ghost use Rattle.schedule_text.specs.Telling.{Tells};
 use crate::arguments::{
     address_argument, four, none, number_argument, one, perm_argument, three, two,
 };
-use crate::fault::Stop;
+use crate::fault::LineFault;
 use crate::parts::cut;
 use crate::written::written;
 use cl_types::call::AtomicOp;
@@ -67,7 +67,7 @@ pub(crate) fn call_word(word: &[u8]) -> Option<CallWord>
 }
 
 #[tactic(auto, using(crate::proofs::ArgumentLemmas::arguments_fault))]
-fn alloc_call(before: Option<What>, rest: Option<&[u8]>) -> Result<CallText, Stop>
+fn alloc_call(before: Option<What>, rest: Option<&[u8]>) -> Result<CallText, LineFault>
     ensures { GivesCall before CallWord.Alloc rest.entry result }
 {
     let (pages, perm) = two(rest, before)?;
@@ -77,7 +77,7 @@ fn alloc_call(before: Option<What>, rest: Option<&[u8]>) -> Result<CallText, Sto
 }
 
 #[tactic(auto, using(crate::proofs::ArgumentLemmas::arguments_fault))]
-fn free_call(before: Option<What>, rest: Option<&[u8]>) -> Result<CallText, Stop>
+fn free_call(before: Option<What>, rest: Option<&[u8]>) -> Result<CallText, LineFault>
     ensures { GivesCall before CallWord.Free rest.entry result }
 {
     let (addr, pages) = two(rest, before)?;
@@ -87,7 +87,7 @@ fn free_call(before: Option<What>, rest: Option<&[u8]>) -> Result<CallText, Stop
 }
 
 #[tactic(auto, using(crate::proofs::ArgumentLemmas::arguments_fault))]
-fn read_call(before: Option<What>, rest: Option<&[u8]>) -> Result<CallText, Stop>
+fn read_call(before: Option<What>, rest: Option<&[u8]>) -> Result<CallText, LineFault>
     ensures { GivesCall before CallWord.Read rest.entry result }
 {
     let (addr, len) = two(rest, before)?;
@@ -97,7 +97,11 @@ fn read_call(before: Option<What>, rest: Option<&[u8]>) -> Result<CallText, Stop
 }
 
 #[tactic(auto, using(crate::proofs::ArgumentLemmas::arguments_fault))]
-fn write_call(alloc: Global, before: Option<What>, rest: Option<&[u8]>) -> Result<CallText, Stop>
+fn write_call(
+    alloc: Global,
+    before: Option<What>,
+    rest: Option<&[u8]>,
+) -> Result<CallText, LineFault>
     ensures { GivesCall before CallWord.Write rest.entry result }
 {
     let (addr, bytes) = two(rest, before)?;
@@ -107,7 +111,7 @@ fn write_call(alloc: Global, before: Option<What>, rest: Option<&[u8]>) -> Resul
 }
 
 #[tactic(auto, using(crate::proofs::ArgumentLemmas::arguments_fault))]
-fn lock_call(before: Option<What>, rest: Option<&[u8]>) -> Result<CallText, Stop>
+fn lock_call(before: Option<What>, rest: Option<&[u8]>) -> Result<CallText, LineFault>
     ensures { GivesCall before CallWord.Lock rest.entry result }
 {
     let addr = address_argument(one(rest, before)?)?;
@@ -116,7 +120,7 @@ fn lock_call(before: Option<What>, rest: Option<&[u8]>) -> Result<CallText, Stop
 }
 
 #[tactic(auto, using(crate::proofs::ArgumentLemmas::arguments_fault))]
-fn unlock_call(before: Option<What>, rest: Option<&[u8]>) -> Result<CallText, Stop>
+fn unlock_call(before: Option<What>, rest: Option<&[u8]>) -> Result<CallText, LineFault>
     ensures { GivesCall before CallWord.Unlock rest.entry result }
 {
     let addr = address_argument(one(rest, before)?)?;
@@ -125,7 +129,7 @@ fn unlock_call(before: Option<What>, rest: Option<&[u8]>) -> Result<CallText, St
 }
 
 #[tactic(auto, using(crate::proofs::ArgumentLemmas::arguments_fault))]
-fn add_call(before: Option<What>, rest: Option<&[u8]>) -> Result<CallText, Stop>
+fn add_call(before: Option<What>, rest: Option<&[u8]>) -> Result<CallText, LineFault>
     ensures { GivesCall before CallWord.Add rest.entry result }
 {
     let (addr, n) = two(rest, before)?;
@@ -136,7 +140,7 @@ fn add_call(before: Option<What>, rest: Option<&[u8]>) -> Result<CallText, Stop>
 }
 
 #[tactic(auto, using(crate::proofs::ArgumentLemmas::arguments_fault))]
-fn cas_call(before: Option<What>, rest: Option<&[u8]>) -> Result<CallText, Stop>
+fn cas_call(before: Option<What>, rest: Option<&[u8]>) -> Result<CallText, LineFault>
     ensures { GivesCall before CallWord.Cas rest.entry result }
 {
     let (addr, expect, put) = three(rest, before)?;
@@ -148,7 +152,11 @@ fn cas_call(before: Option<What>, rest: Option<&[u8]>) -> Result<CallText, Stop>
 }
 
 #[tactic(auto, using(crate::proofs::ArgumentLemmas::arguments_fault))]
-fn offload_call(alloc: Global, before: Option<What>, rest: Option<&[u8]>) -> Result<CallText, Stop>
+fn offload_call(
+    alloc: Global,
+    before: Option<What>,
+    rest: Option<&[u8]>,
+) -> Result<CallText, LineFault>
     ensures { GivesCall before CallWord.Offload rest.entry result }
 {
     let (no, op, out, bytes) = four(rest, before)?;
@@ -160,7 +168,7 @@ fn offload_call(alloc: Global, before: Option<What>, rest: Option<&[u8]>) -> Res
 }
 
 #[tactic(auto, using(crate::proofs::ArgumentLemmas::arguments_fault))]
-fn fence_call(before: Option<What>, rest: Option<&[u8]>) -> Result<CallText, Stop>
+fn fence_call(before: Option<What>, rest: Option<&[u8]>) -> Result<CallText, LineFault>
     ensures { GivesCall before CallWord.Fence rest.entry result }
 {
     none(rest, before)?;
@@ -174,7 +182,7 @@ pub(crate) fn call_by_word(
     word: CallWord,
     before: Option<What>,
     rest: Option<&[u8]>,
-) -> Result<CallText, Stop>
+) -> Result<CallText, LineFault>
     ensures { GivesCall before word rest.entry result }
 {
     match word {
@@ -193,12 +201,12 @@ pub(crate) fn call_by_word(
 
 /// The call of a script's line.
 #[tactic(auto, using(crate::proofs::CallLemmas::call_forms_by_word))]
-pub(crate) fn call_in_line(alloc: Global, line: &[u8]) -> Result<CallText, Stop>
+pub(crate) fn call_in_line(alloc: Global, line: &[u8]) -> Result<CallText, LineFault>
     ensures { Tells result (call_in_words (words_in line.now)) }
 {
     let (word, rest) = cut(line, b' ');
     match call_word(word) {
-        None => Err(Stop::Bad(What::UnknownWord)),
+        None => Err(LineFault::Bad(What::UnknownWord)),
         Some(word) => call_by_word(alloc, word, None, rest),
     }
 }

@@ -7,8 +7,9 @@ ghost use Rattle.frame_model.specs.Faults.{first_fault};
 ghost use Rattle.texts.specs.Grammar.{byte_faults};
 ghost use Rattle.schedule_text.specs.Reading.{too_long_of};
 
-use crate::fault::{MOST_BYTES, MOST_LINES, ScheduleFault};
+use crate::fault::ScheduleFault;
 use crate::parts::cut;
+use cl_types::limits::{INPUT_BYTES, INPUT_LINES};
 use cl_types::schedule::What;
 
 /// The first line, and what stands behind its end.
@@ -26,10 +27,10 @@ pub fn next_line(bytes: &[u8]) -> (&[u8], &[u8])
 
 /// Whether there are more lines than may be.
 fn has_too_many_lines(bytes: &[u8]) -> bool
-    ensures { result ≡ nat_lt MOST_LINES (length (lines_in bytes.now)) }
+    ensures { result ≡ nat_lt INPUT_LINES (length (lines_in bytes.now)) }
 {
     let mut rest = bytes;
-    for line in 0..MOST_LINES {
+    for line in 0..INPUT_LINES {
         if rest.is_empty() {
             return false;
         }
@@ -43,15 +44,15 @@ fn has_too_many_lines(bytes: &[u8]) -> bool
 pub fn too_long(bytes: &[u8]) -> Option<ScheduleFault>
     ensures { result ≡ too_long_of bytes.now }
 {
-    if bytes.len() > MOST_BYTES {
-        let number = MOST_BYTES as u32 + 1;
+    if bytes.len() > INPUT_BYTES {
+        let number = INPUT_BYTES as u32 + 1;
         return Some(ScheduleFault::TooLong {
             bytes: true,
             number,
         });
     }
     if has_too_many_lines(bytes) {
-        let number = MOST_LINES + 1;
+        let number = INPUT_LINES + 1;
         return Some(ScheduleFault::TooLong {
             bytes: false,
             number,

@@ -9,11 +9,11 @@ ghost use Rattle.schedule_text.specs.Lines.{said_of};
 ghost use Rattle.schedule_text.specs.Readings.{Gives, line_said};
 ghost use Rattle.schedule_text.specs.Telling.{LeavesOf, TellsBy};
 
-use crate::fault::{ScheduleFault, Stop};
+use crate::fault::{LineFault, ScheduleFault};
 use crate::garbage::{is_reply, is_request};
 use crate::lines::{byte_fault, is_passed_over};
 use crate::parts::cut;
-use crate::said::{Said, said_in};
+use crate::said::{Statement, said_in};
 use cl_types::config::{ClientList, Config, NodeConfig, OffloadConfig, OffloadList};
 use cl_types::items::{Bytes, NoMemory};
 use cl_types::limits::{ADDRESS_END, MOST_CLIENTS, PAGE_BYTES};
@@ -188,27 +188,27 @@ impl Reading {
     }
 
     /// What is wrong with what a line says.
-    fn said_fault(&self, alloc: Global, said: &Said) -> Result<Option<What>, NoMemory>
+    fn said_fault(&self, alloc: Global, said: &Statement) -> Result<Option<What>, NoMemory>
         ensures { IfOk result (λ fault.
             fault ≡ first_fault (said_faults self.now (said_of said.now))) }
     {
         match said {
-            Said::Node { .. } | Said::Offload(_) => Ok(None),
-            Said::Client(number, _) => Ok(self.number_fault(*number)),
-            Said::Happens(event) => self.event_fault(alloc, event),
+            Statement::Node { .. } | Statement::Offload(_) => Ok(None),
+            Statement::Client(number, _) => Ok(self.number_fault(*number)),
+            Statement::Happens(event) => self.event_fault(alloc, event),
         }
     }
 
     /// What a line says, where nothing is wrong with it.
-    fn line_said(&self, alloc: Global, line: &[u8]) -> Result<Said, Stop>
+    fn line_said(&self, alloc: Global, line: &[u8]) -> Result<Statement, LineFault>
         ensures { TellsBy said_of result (line_said self.now line.now) }
     {
         if let Some(what) = self.place_fault(line) {
-            return Err(Stop::Bad(what));
+            return Err(LineFault::Bad(what));
         }
         let said = said_in(alloc, line)?;
         match self.said_fault(alloc, &said)? {
-            Some(what) => Err(Stop::Bad(what)),
+            Some(what) => Err(LineFault::Bad(what)),
             None => Ok(said),
         }
     }
@@ -223,12 +223,18 @@ impl Reading {
     }
 
     /// Adds what a line says.
-    fn add(&mut self, alloc: Global, number: u32, line: &[u8], said: Said) -> Result<(), NoMemory>
+    fn add(
+        &mut self,
+        alloc: Global,
+        number: u32,
+        line: &[u8],
+        said: Statement,
+    ) -> Result<(), NoMemory>
         ensures { OnOk result (self.new
             ≡ read_more self.old number line.now (said_of said)) }
     {
         match said {
-            Said::Node {
+            Statement::Node {
                 pages,
                 buckets,
                 ring,
@@ -245,15 +251,15 @@ impl Reading {
                 });
                 Ok(())
             }
-            Said::Offload(offload) => {
+            Statement::Offload(offload) => {
                 self.keep_line(line)?;
                 self.add_offload(offload)
             }
-            Said::Client(number, pid) => {
+            Statement::Client(number, pid) => {
                 self.keep_line(line)?;
                 self.clients.push((number, pid))
             }
-            Said::Happens(event) => {
+            Statement::Happens(event) => {
                 self.events.push((number, event))?;
                 self.begun = true;
                 Ok(())
@@ -287,8 +293,8 @@ impl Reading {
             return Ok(());
         }
         match self.line_said(alloc, line) {
-            Err(Stop::Bad(what)) => Err(ScheduleFault::Line { number, what }),
-            Err(Stop::NoMemory) => Err(ScheduleFault::NoMemory),
+            Err(LineFault::Bad(what)) => Err(ScheduleFault::Line { number, what }),
+            Err(LineFault::NoMemory) => Err(ScheduleFault::NoMemory),
             Ok(said) => {
                 self.add(alloc, number, line, said)?;
                 Ok(())

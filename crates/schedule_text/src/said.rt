@@ -12,19 +12,17 @@ use crate::arguments::{
     address_argument, client_argument, four, none, number_argument, one, pid_argument, three, two,
 };
 use crate::calls::{CallWord, call_by_word, call_word};
-use crate::fault::Stop;
+use crate::fault::LineFault;
 use crate::parts::cut;
 use crate::written::written;
 use cl_types::config::OffloadConfig;
+use cl_types::limits::MOST_TICKS;
 use cl_types::numbers::{ClientNo, Pid};
 use cl_types::schedule::{Event, What};
 use std::alloc::Global;
 
 /// The greatest number of a frame.
 const LAST_FRAME: u64 = 4_294_967_295;
-
-/// The greatest number of ticks by which time goes on at once.
-const MOST_TICKS: u64 = 1_000_000_000;
 
 /// The greatest number of bytes that a peek shows.
 const MOST_SHOWN: u64 = 1024;
@@ -48,7 +46,7 @@ pub(crate) enum LineWord {
 
 /// What a line says.
 #[derive(Drop)]
-pub(crate) enum Said {
+pub(crate) enum Statement {
     Node {
         pages: u64,
         buckets: u64,
@@ -94,7 +92,7 @@ pub(crate) fn line_word(word: &[u8]) -> Option<LineWord>
 }
 
 #[tactic(auto, using(crate::proofs::ArgumentLemmas::arguments_fault))]
-fn node_line(rest: Option<&[u8]>) -> Result<Said, Stop>
+fn node_line(rest: Option<&[u8]>) -> Result<Statement, LineFault>
     ensures { Says LineWord.Node rest.entry result }
 {
     let (pages, buckets, ring, retry) = four(rest, None)?;
@@ -102,7 +100,7 @@ fn node_line(rest: Option<&[u8]>) -> Result<Said, Stop>
     let buckets = number_argument(0, u64::MAX, buckets)?;
     let ring = number_argument(0, u64::MAX, ring)?;
     let retry = number_argument(0, u64::MAX, retry)?;
-    Ok(Said::Node {
+    Ok(Statement::Node {
         pages,
         buckets,
         ring,
@@ -111,28 +109,28 @@ fn node_line(rest: Option<&[u8]>) -> Result<Said, Stop>
 }
 
 #[tactic(auto, using(crate::proofs::ArgumentLemmas::arguments_fault))]
-fn offload_line(rest: Option<&[u8]>) -> Result<Said, Stop>
+fn offload_line(rest: Option<&[u8]>) -> Result<Statement, LineFault>
     ensures { Says LineWord.Offload rest.entry result }
 {
     let Some(words) = rest else {
-        return Err(Stop::Bad(What::MissingWord));
+        return Err(LineFault::Bad(What::MissingWord));
     };
     let (kind, rest) = cut(words, b' ');
     if kind != b"kv".as_slice() {
-        return Err(Stop::Bad(What::UnknownWord));
+        return Err(LineFault::Bad(What::UnknownWord));
     }
     let records = number_argument(0, u64::MAX, one(rest, None)?)?;
-    Ok(Said::Offload(OffloadConfig::Kv { records }))
+    Ok(Statement::Offload(OffloadConfig::Kv { records }))
 }
 
 #[tactic(auto, using(crate::proofs::ArgumentLemmas::arguments_fault))]
-fn client_line(rest: Option<&[u8]>) -> Result<Said, Stop>
+fn client_line(rest: Option<&[u8]>) -> Result<Statement, LineFault>
     ensures { Says LineWord.Client rest.entry result }
 {
     let (number, pid) = two(rest, None)?;
     let number = client_argument(number)?;
     let pid = pid_argument(pid)?;
-    Ok(Said::Client(number, pid))
+    Ok(Statement::Client(number, pid))
 }
 
 /// A call of a client that has a good number.
@@ -141,11 +139,11 @@ fn call_of_client(
     client: ClientNo,
     word: CallWord,
     rest: Option<&[u8]>,
-) -> Result<Said, Stop>
+) -> Result<Statement, LineFault>
     ensures { SaysCall (Ok client) (call_after None (form_of word) (words_left rest.entry)) result }
 {
     let call = call_by_word(alloc, word, None, rest)?;
-    Ok(Said::Happens(Event::Call { client, call }))
+    Ok(Statement::Happens(Event::Call { client, call }))
 }
 
 /// A call behind a bad number: that it is bad is told where the number of words is right.
@@ -154,12 +152,12 @@ fn call_of_nobody(
     what: What,
     word: CallWord,
     rest: Option<&[u8]>,
-) -> Result<Said, Stop>
+) -> Result<Statement, LineFault>
     ensures { SaysCall (Err what)
         (call_after (Some what) (form_of word) (words_left rest.entry)) result }
 {
     call_by_word(alloc, word, Some(what), rest)?;
-    Err(Stop::Bad(what))
+    Err(LineFault::Bad(what))
 }
 
 /// A call, by the words that name its client and its kind.
@@ -169,12 +167,12 @@ fn named_call<'a>(
     number: &'a [u8],
     name: &'a [u8],
     rest: Option<&'a [u8]>,
-) -> Result<Said, Stop>
+) -> Result<Statement, LineFault>
     ensures { TellsBy said_of result
         (said_in_form (in_call (number.now ∷ name.now ∷ words_left rest.entry))) }
 {
     let Some(word) = call_word(name) else {
-        return Err(Stop::Bad(What::UnknownWord));
+        return Err(LineFault::Bad(What::UnknownWord));
     };
     match client_argument(number) {
         Ok(client) => call_of_client(alloc, client, word, rest),
@@ -182,107 +180,107 @@ fn named_call<'a>(
     }
 }
 
-fn call_line(alloc: Global, rest: Option<&[u8]>) -> Result<Said, Stop>
+fn call_line(alloc: Global, rest: Option<&[u8]>) -> Result<Statement, LineFault>
     ensures { Says LineWord.Call rest.entry result }
 {
     let Some(words) = rest else {
-        return Err(Stop::Bad(What::MissingWord));
+        return Err(LineFault::Bad(What::MissingWord));
     };
     let (number, rest) = cut(words, b' ');
     let Some(words) = rest else {
-        return Err(Stop::Bad(What::MissingWord));
+        return Err(LineFault::Bad(What::MissingWord));
     };
     let (name, rest) = cut(words, b' ');
     named_call(alloc, number, name, rest)
 }
 
 #[tactic(auto, using(crate::proofs::ArgumentLemmas::arguments_fault))]
-fn poll_line(rest: Option<&[u8]>) -> Result<Said, Stop>
+fn poll_line(rest: Option<&[u8]>) -> Result<Statement, LineFault>
     ensures { Says LineWord.Poll rest.entry result }
 {
     let client = client_argument(one(rest, None)?)?;
-    Ok(Said::Happens(Event::Poll { client }))
+    Ok(Statement::Happens(Event::Poll { client }))
 }
 
 #[tactic(auto, using(crate::proofs::ArgumentLemmas::arguments_fault))]
-fn deliver_line(rest: Option<&[u8]>) -> Result<Said, Stop>
+fn deliver_line(rest: Option<&[u8]>) -> Result<Statement, LineFault>
     ensures { Says LineWord.Deliver rest.entry result }
 {
     let Some(words) = rest else {
-        return Err(Stop::Bad(What::MissingWord));
+        return Err(LineFault::Bad(What::MissingWord));
     };
     let (word, behind) = cut(words, b' ');
     if word == b"next".as_slice() {
         none(behind, None)?;
-        return Ok(Said::Happens(Event::DeliverNext));
+        return Ok(Statement::Happens(Event::DeliverNext));
     }
     let frame = number_argument(1, LAST_FRAME, one(Some(words), None)?)? as u32;
-    Ok(Said::Happens(Event::Deliver { frame }))
+    Ok(Statement::Happens(Event::Deliver { frame }))
 }
 
 #[tactic(auto, using(crate::proofs::ArgumentLemmas::arguments_fault))]
-fn drop_line(rest: Option<&[u8]>) -> Result<Said, Stop>
+fn drop_line(rest: Option<&[u8]>) -> Result<Statement, LineFault>
     ensures { Says LineWord.Drop rest.entry result }
 {
     none(rest, None)?;
-    Ok(Said::Happens(Event::Drop))
+    Ok(Statement::Happens(Event::Drop))
 }
 
 #[tactic(auto, using(crate::proofs::ArgumentLemmas::arguments_fault))]
-fn tick_line(rest: Option<&[u8]>) -> Result<Said, Stop>
+fn tick_line(rest: Option<&[u8]>) -> Result<Statement, LineFault>
     ensures { Says LineWord.Tick rest.entry result }
 {
     let by = number_argument(1, MOST_TICKS, one(rest, None)?)?;
-    Ok(Said::Happens(Event::Tick { by }))
+    Ok(Statement::Happens(Event::Tick { by }))
 }
 
 #[tactic(auto, using(crate::proofs::ArgumentLemmas::arguments_fault))]
-fn peek_line(rest: Option<&[u8]>) -> Result<Said, Stop>
+fn peek_line(rest: Option<&[u8]>) -> Result<Statement, LineFault>
     ensures { Says LineWord.Peek rest.entry result }
 {
     let (pid, addr, len) = three(rest, None)?;
     let pid = pid_argument(pid)?;
     let addr = address_argument(addr)?;
     let len = number_argument(1, MOST_SHOWN, len)? as u16;
-    Ok(Said::Happens(Event::Peek { pid, addr, len }))
+    Ok(Statement::Happens(Event::Peek { pid, addr, len }))
 }
 
 #[tactic(auto, using(crate::proofs::ArgumentLemmas::arguments_fault))]
-fn show_line(rest: Option<&[u8]>) -> Result<Said, Stop>
+fn show_line(rest: Option<&[u8]>) -> Result<Statement, LineFault>
     ensures { Says LineWord.Show rest.entry result }
 {
     let frame = number_argument(1, LAST_FRAME, one(rest, None)?)? as u32;
-    Ok(Said::Happens(Event::Show { frame }))
+    Ok(Statement::Happens(Event::Show { frame }))
 }
 
 #[tactic(auto, using(crate::proofs::ArgumentLemmas::arguments_fault))]
-fn stat_line(rest: Option<&[u8]>) -> Result<Said, Stop>
+fn stat_line(rest: Option<&[u8]>) -> Result<Statement, LineFault>
     ensures { Says LineWord.Stat rest.entry result }
 {
     none(rest, None)?;
-    Ok(Said::Happens(Event::Stat))
+    Ok(Statement::Happens(Event::Stat))
 }
 
 #[tactic(auto, using(crate::proofs::ArgumentLemmas::arguments_fault))]
-fn garbage_line(alloc: Global, rest: Option<&[u8]>) -> Result<Said, Stop>
+fn garbage_line(alloc: Global, rest: Option<&[u8]>) -> Result<Statement, LineFault>
     ensures { Says LineWord.Garbage rest.entry result }
 {
     let Some(words) = rest else {
-        return Err(Stop::Bad(What::MissingWord));
+        return Err(LineFault::Bad(What::MissingWord));
     };
     let (word, behind) = cut(words, b' ');
     if word == b"node".as_slice() {
         let bytes = written(alloc, one(behind, None)?)?;
-        return Ok(Said::Happens(Event::GarbageNode { bytes }));
+        return Ok(Statement::Happens(Event::GarbageNode { bytes }));
     }
     let (client, bytes) = two(Some(words), None)?;
     let client = client_argument(client)?;
     let bytes = written(alloc, bytes)?;
-    Ok(Said::Happens(Event::GarbageClient { client, bytes }))
+    Ok(Statement::Happens(Event::GarbageClient { client, bytes }))
 }
 
 /// What the line of a first word says, with the words behind it.
-fn said_by_word(alloc: Global, word: LineWord, rest: Option<&[u8]>) -> Result<Said, Stop>
+fn said_by_word(alloc: Global, word: LineWord, rest: Option<&[u8]>) -> Result<Statement, LineFault>
     ensures { Says word rest.entry result }
 {
     match word {
@@ -303,12 +301,12 @@ fn said_by_word(alloc: Global, word: LineWord, rest: Option<&[u8]>) -> Result<Sa
 
 /// What a line says.
 #[tactic(auto, using(crate::proofs::CallLemmas::line_forms_by_word))]
-pub(crate) fn said_in(alloc: Global, line: &[u8]) -> Result<Said, Stop>
+pub(crate) fn said_in(alloc: Global, line: &[u8]) -> Result<Statement, LineFault>
     ensures { TellsBy said_of result (said_by_words (words_in line.now)) }
 {
     let (word, rest) = cut(line, b' ');
     match line_word(word) {
-        None => Err(Stop::Bad(What::UnknownWord)),
+        None => Err(LineFault::Bad(What::UnknownWord)),
         Some(word) => said_by_word(alloc, word, rest),
     }
 }

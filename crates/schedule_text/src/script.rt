@@ -7,17 +7,17 @@ ghost use Rattle.schedule_text.specs.Script.{calls_of, with_line};
 ghost use Rattle.schedule_text.specs.Telling.{LeavesOf, Tells};
 
 use crate::calls::call_in_line;
-use crate::fault::{ScheduleFault, Stop};
+use crate::fault::{LineFault, ScheduleFault};
 use crate::lines::{byte_fault, is_passed_over, next_line, too_long};
 use cl_types::schedule::{CallText, Script, ScriptList};
 use std::alloc::Global;
 
 /// The call of a line that isn't passed over.
-fn call_of_line(alloc: Global, line: &[u8]) -> Result<CallText, Stop>
+fn call_of_line(alloc: Global, line: &[u8]) -> Result<CallText, LineFault>
     ensures { Tells result (script_line line.now) }
 {
     if let Some(what) = byte_fault(line) {
-        return Err(Stop::Bad(what));
+        return Err(LineFault::Bad(what));
     }
     call_in_line(alloc, line)
 }
@@ -35,8 +35,8 @@ fn read_line(
         return Ok(());
     }
     match call_of_line(alloc, line) {
-        Err(Stop::Bad(what)) => Err(ScheduleFault::Line { number, what }),
-        Err(Stop::NoMemory) => Err(ScheduleFault::NoMemory),
+        Err(LineFault::Bad(what)) => Err(ScheduleFault::Line { number, what }),
+        Err(LineFault::NoMemory) => Err(ScheduleFault::NoMemory),
         Ok(call) => {
             calls.push((number, call))?;
             Ok(())

@@ -6,7 +6,7 @@ ghost use Rattle.texts.specs.Words.{BytesWord, argument_in, bytes_of_pairs, is_h
 ghost use Rattle.schedule_text.specs.Parts.{parts_left};
 ghost use Rattle.schedule_text.specs.Telling.{TellsBy};
 
-use crate::fault::Stop;
+use crate::fault::LineFault;
 use crate::numbers::{hex_digit, is_hex, number};
 use crate::parts::cut;
 use cl_types::items::{Bytes, NoMemory};
@@ -65,7 +65,7 @@ fn pairs(alloc: Global, digits: &[u8]) -> Result<Bytes, NoMemory>
 }
 
 /// Written bytes.
-pub(crate) fn written(alloc: Global, text: &[u8]) -> Result<Written, Stop>
+pub(crate) fn written(alloc: Global, text: &[u8]) -> Result<Written, LineFault>
     ensures { TellsBy B result (argument_in BytesWord text.now) }
 {
     if text == b"-".as_slice() {
@@ -74,10 +74,10 @@ pub(crate) fn written(alloc: Global, text: &[u8]) -> Result<Written, Stop>
     }
     let (digits, rest) = cut(text, b'*');
     let Some(times) = times(rest) else {
-        return Err(Stop::Bad(What::BadBytes));
+        return Err(LineFault::Bad(What::BadBytes));
     };
     if !are_pairs(digits, times) {
-        return Err(Stop::Bad(What::BadBytes));
+        return Err(LineFault::Bad(What::BadBytes));
     }
     let bytes = pairs(alloc, digits)?;
     Ok(Written {

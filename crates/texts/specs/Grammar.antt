@@ -16,7 +16,7 @@ use Rattle.cl_types.specs.declared.schedule.What.TheVariants.{BadByte, BadSpacin
 use Rattle.texts.specs.Text.{Text, lines_in, words_in, first_word, is_skipped, is_text, is_empty}
 use Rattle.frame_model.specs.Faults.{first_fault}
 use Rattle.texts.specs.Words.{most_written, Argument, Number, Address, Permission, BytesWord, Value, N, A, P, B, arguments_in}
-use Rattle.cl_types.specs.declared.limits.TheConstants.{PAGE_BYTES, PART_BYTES, MOST_CLIENTS}
+use Rattle.cl_types.specs.declared.limits.TheConstants.{PAGE_BYTES, PART_BYTES, MOST_CLIENTS, MOST_TICKS}
 use Rattle.cl_types.specs.declared.numbers.TheConstants.{LAST_PID}
 use Rattle.cl_types.specs.Pages.{offset_of}
 use Rattle.cl_types.specs.Ranges.{is_good_address}
@@ -24,19 +24,19 @@ use Rattle.cl_types.specs.Written.{expanded}
 use Rattle.frame_model.specs.Frames.{request_fault, reply_fault}
 
 -- what a line that isn't skipped says
-pub data Said : Type 0 where
-  Node : (pages buckets ring retry : ℕ) → Said
-  Offload : (config : OffloadConfig) → Said
-  Client : (number : ClientNo) → (pid : ℕ) → Said
-  Happens : (event : Event) → Said
+pub data Statement : Type 0 where
+  Node : (pages buckets ring retry : ℕ) → Statement
+  Offload : (config : OffloadConfig) → Statement
+  Client : (number : ClientNo) → (pid : ℕ) → Statement
+  Happens : (event : Event) → Statement
 
 -- a form of line: its arguments, and what the line says with their values
 pub record Form : Type 0 where
   pub arguments : List Argument
-  pub says : List Value → Option Said
+  pub says : List Value → Option Statement
 
 -- the form with these arguments, of which the line says this
-abbrev pub form : List Argument → (List Value → Option Said) → Result Form What
+abbrev pub form : List Argument → (List Value → Option Statement) → Result Form What
 form arguments says = Ok (record { arguments = arguments; says = says })
 
 -- a number of 16 bits
@@ -56,42 +56,42 @@ abbrev pub u64 : Argument
 u64 = Number 0 18446744073709551615
 
 -- a node line gives pages, buckets, ring and retry
-abbrev pub node_says : List Value → Option Said
+abbrev pub node_says : List Value → Option Statement
 node_says (N pages ∷ N buckets ∷ N ring ∷ N retry ∷ []) = Some (Node pages buckets ring retry)
 node_says values = None
 
 -- an offload line of a key-value store gives its records
-abbrev pub kv_says : List Value → Option Said
+abbrev pub kv_says : List Value → Option Statement
 kv_says (N records ∷ []) = Some (Offload (Kv records))
 kv_says values = None
 
 -- a client line gives the client's number and its process
-abbrev pub client_says : List Value → Option Said
+abbrev pub client_says : List Value → Option Statement
 client_says (N number ∷ N pid ∷ []) = Some (Client (record { 0 = number }) pid)
 client_says values = None
 
 -- the line of an event with no argument
-abbrev pub bare : Event → List Value → Option Said
+abbrev pub bare : Event → List Value → Option Statement
 bare e [] = Some (Happens e)
 bare e values = None
 
 -- the line of an event with one number
-abbrev pub of_number : (ℕ → Event) → List Value → Option Said
+abbrev pub of_number : (ℕ → Event) → List Value → Option Statement
 of_number make (N n ∷ []) = Some (Happens (make n))
 of_number make values = None
 
 -- a peek line gives process, address and number of bytes
-abbrev pub peek_says : List Value → Option Said
+abbrev pub peek_says : List Value → Option Statement
 peek_says (N pid ∷ A addr ∷ N len ∷ []) = Some (Happens (event.Peek pid addr len))
 peek_says values = None
 
 -- a garbage line for the node gives the bytes
-abbrev pub garbage_node_says : List Value → Option Said
+abbrev pub garbage_node_says : List Value → Option Statement
 garbage_node_says (B bytes ∷ []) = Some (Happens (event.GarbageNode bytes))
 garbage_node_says values = None
 
 -- a garbage line for a client gives its number and the bytes
-abbrev pub garbage_client_says : List Value → Option Said
+abbrev pub garbage_client_says : List Value → Option Statement
 garbage_client_says (N number ∷ B bytes ∷ []) = Some (Happens (event.GarbageClient (record { 0 = number }) bytes))
 garbage_client_says values = None
 
@@ -172,7 +172,7 @@ by_word word [] = None
 by_word word (f ∷ fs) = if is_text word f.0 then Some f.1 else by_word word fs
 
 -- the line of a call: its client and then the call's arguments
-abbrev pub of_client : (List Value → Option CallText) → List Value → Option Said
+abbrev pub of_client : (List Value → Option CallText) → List Value → Option Statement
 of_client calls (N number ∷ values) = option_map (λ c. Happens (event.Call (record { 0 = number }) c)) (calls values)
 of_client calls values = None
 
@@ -221,7 +221,7 @@ line_forms ws =
     ∷ (codes "poll", (form (u16 ∷ []) (of_number (λ n. event.Poll (record { 0 = n }))), ws))
     ∷ (codes "deliver", in_deliver ws)
     ∷ (codes "drop", (form [] (bare event.Drop), ws))
-    ∷ (codes "tick", (form (Number 1 1000000000 ∷ []) (of_number event.Tick), ws))
+    ∷ (codes "tick", (form (Number 1 MOST_TICKS ∷ []) (of_number event.Tick), ws))
     ∷ (codes "peek", (form (process_number ∷ Address ∷ Number 1 PART_BYTES ∷ []) peek_says, ws))
     ∷ (codes "show", (form (Number 1 4294967295 ∷ []) (of_number event.Show), ws))
     ∷ (codes "stat", (form [] (bare event.Stat), ws))
@@ -230,17 +230,17 @@ line_forms ws =
 
 -- what a line says with these values, or what is wrong with one of them; each form says something of the values of its
 -- arguments, so its third case never comes
-abbrev pub said_by : (List Value → Option Said) → Result (List Value) What → Result Said What
+abbrev pub said_by : (List Value → Option Statement) → Result (List Value) What → Result Statement What
 said_by says (Err what) = Err what
 said_by says (Ok values) = elim (says values) [ None ↦ Err UnknownWord | Some said ↦ Ok said ]
 
 -- what a line says in the form that it begins, or what is wrong with it
-abbrev pub said_in_form : Begun → Result Said What
+abbrev pub said_in_form : Begun → Result Statement What
 said_in_form (Err what, ws) = Err what
 said_in_form (Ok f, ws) = said_by f.says (arguments_in f.arguments ws)
 
 -- what the words of a line say, or what is wrong with them
-abbrev pub said_by_words : List Text → Result Said What
+abbrev pub said_by_words : List Text → Result Statement What
 said_by_words [] = Err UnknownWord
 said_by_words (word ∷ ws) = elim (by_word word (line_forms ws)) [ None ↦ Err UnknownWord | Some begun ↦ said_in_form begun ]
 
@@ -290,7 +290,7 @@ event_faults r (event.GarbageClient client bytes) = (not (is_given r client), Un
 event_faults r other = []
 
 -- the faults of what a line says after what was read: whether each holds
-abbrev pub said_faults : Reading → Said → List (Bool × What)
+abbrev pub said_faults : Reading → Statement → List (Bool × What)
 said_faults r (Client number pid) = (is_given r number, ClientRepeated) ∷ (leb MOST_CLIENTS (length r.clients), TooManyClients) ∷ []
 said_faults r (Happens event) = event_faults r event
 said_faults r other = []
@@ -301,7 +301,7 @@ with_offload o None = None
 with_offload o (Some c) = Some (record c { offloads = c.offloads ++ o ∷ [] })
 
 -- what was read, with one good line more
-abbrev pub read_more : Reading → ℕ → Text → Said → Reading
+abbrev pub read_more : Reading → ℕ → Text → Statement → Reading
 read_more r n line (Node pages buckets ring retry) = record r {
   header = r.header ++ line ++ 10 ∷ [];
   node = Some (record { pages = pages; buckets = buckets; ring = ring; retry = retry; offloads = [] });
@@ -315,7 +315,7 @@ abbrev pub Fault : Type 0
 Fault = ℕ × What
 
 -- what was read with a line that says this, or the line's fault
-abbrev pub judged_said : Reading → ℕ → Text → Result Said What → Result Reading Fault
+abbrev pub judged_said : Reading → ℕ → Text → Result Statement What → Result Reading Fault
 judged_said r n line (Err what) = Err (n, what)
 judged_said r n line (Ok said) = elim (first_fault (said_faults r said)) [ Some what ↦ Err (n, what) | None ↦ Ok (read_more r n line said) ]
 

@@ -13,7 +13,7 @@ use Rattle.trace.specs.Clients.{first_sent}
 use Rattle.trace.specs.Events.{account_of_latest, entry_of, handed, next_account, nothing_happens, replies, then_also}
 use Rattle.frame_model.specs.Frames.{Item, kind_of}
 use Rattle.node_model.specs.Handling.{latest}
-use Rattle.node_model.specs.Nodes.{Node, Record, Said, Gives, IsBusy, node_after, said_to}
+use Rattle.node_model.specs.Nodes.{NodeState, Record, ItemAnswer, Gives, IsBusy, node_after, said_to}
 use Rattle.flat_model.specs.Run.{after, changing_of}
 use Rattle.flat_model.specs.State.{opening}
 use Rattle.trace.specs.Schedules.{IsRisingFrom, AreTyped}
@@ -33,7 +33,7 @@ record_at a e = record {
 }
 
 -- the node: the flat state after the history, and the latest changing entries as its records
-abbrev pub node_at : Config → Account → Node
+abbrev pub node_at : Config → Account → NodeState
 node_at config a = record {
   flat = after (opening config.node) a.history;
   records = map (record_at a) (latest config.node.retry (changing_of a.history));
@@ -56,35 +56,35 @@ looks_by Looked e = e ∷ []
 looks_by other e = []
 
 -- what it brings that a node says this to the item at position q of a frame
-abbrev pub on_said : Account → (l frame q : ℕ) → Carried → Said → Effect
+abbrev pub on_said : Account → (l frame q : ℕ) → Carried → ItemAnswer → Effect
 on_said a l frame q i (Gives how reply) =
     replies a l frame i how reply (entries_by how (entry_of l q i reply)) (looks_by how (entry_of l q i reply))
 on_said a l frame q i (IsBusy oldest at) = says (did.Busy frame i.item.head.client i.part oldest at)
 
 -- what it brings that a node says this to the items of a frame, in order
-abbrev pub on_all_said : Account → (l frame q : ℕ) → List Carried → List Said → Effect
+abbrev pub on_all_said : Account → (l frame q : ℕ) → List Carried → List ItemAnswer → Effect
 on_all_said a l frame q (i ∷ items) (said ∷ rest) =
     let e : Effect = on_said a l frame q i said in then_also e (on_all_said (joined_by a e) l frame (q + 1) items rest)
 on_all_said a l frame q other said = nothing_happens
 
 -- ---- what a line leaves of it
 -- a live frame: its items are answered in order
-abbrev pub node_after_load : ℕ → Load → Node → Node
+abbrev pub node_after_load : ℕ → Load → NodeState → NodeState
 node_after_load t (Asks items) n = node_after latest n t (items_carried items)
 node_after_load t (Answers head reply if_taken) n = n
 
 -- a frame that was delivered, live or not: only a live one comes to the node
-abbrev pub node_after_delivered : ℕ → Bool → Frame → Node → Node
+abbrev pub node_after_delivered : ℕ → Bool → Frame → NodeState → NodeState
 node_after_delivered t true frame n = node_after_load t frame.load n
 node_after_delivered t false frame n = n
 
 -- the frame of a delivery, where there is one
-abbrev pub node_after_frame : ℕ → Option Frame → Node → Node
+abbrev pub node_after_frame : ℕ → Option Frame → NodeState → NodeState
 node_after_frame t None n = n
 node_after_frame t (Some frame) n = node_after_delivered t (is_live t frame.moment) frame n
 
 -- the node after an event: a live request frame is a step of its machine, and all else leaves it
-abbrev pub node_after_event : Account → ℕ → Event → Node → Node
+abbrev pub node_after_event : Account → ℕ → Event → NodeState → NodeState
 node_after_event a l (event.Deliver frame) n = node_after_frame (now a l) (frame_at a frame) n
 node_after_event a l event.DeliverNext n = node_after_frame (now a l) (frame_at a (taken_in_order a + 1)) n
 node_after_event a l other n = n

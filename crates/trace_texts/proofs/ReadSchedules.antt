@@ -25,7 +25,7 @@ use Rattle.frame_model.specs.Frames.{reply_fault}
 use Rattle.cl_types.specs.Ranges.{are_bytes, is_typed, is_typed_call}
 use Rattle.texts.specs.Text.{Text, first_word, is_empty, is_skipped, is_text, lines_in, words_in}
 use Rattle.texts.specs.Words.{is_digit, is_plain, value_in, number_in, is_hex_digit, hex_value, address_of_digits, address_in, perm_in, most_written, bytes_of_pairs, times_in, written_of, written_in_parts, written_in, Argument, Number, Address, Permission, BytesWord, Value, N, A, P, B, or_fault, argument_in, with_first, values_in, arguments_in}
-use Rattle.texts.specs.Grammar.{alloc_call, free_call, read_call, write_call, lock_call, unlock_call, add_call, cas_call, offload_call, fence_call, u16, u32, u64, process_number, form, bare, of_number, node_says, kv_says, client_says, peek_says, garbage_node_says, garbage_client_says, Fault, Reading, Said, Node, Offload, Client, Happens, Form, CallForm, Begun, by_word, call_forms, call_form, in_call, in_offload, in_deliver, in_garbage, line_forms, of_client, said_by, said_in_form, said_by_words, is_given, event_faults, at_end, judged_line, judged_said, line_read, nothing_read, place_faults, read_more, said_faults, schedule_from}
+use Rattle.texts.specs.Grammar.{alloc_call, free_call, read_call, write_call, lock_call, unlock_call, add_call, cas_call, offload_call, fence_call, u16, u32, u64, process_number, form, bare, of_number, node_says, kv_says, client_says, peek_says, garbage_node_says, garbage_client_says, Fault, Reading, Statement, Node, Offload, Client, Happens, Form, CallForm, Begun, by_word, call_forms, call_form, in_call, in_offload, in_deliver, in_garbage, line_forms, of_client, said_by, said_in_form, said_by_words, is_given, event_faults, at_end, judged_line, judged_said, line_read, nothing_read, place_faults, read_more, said_faults, schedule_from}
 use Rattle.trace.specs.Schedules.{is_of_clients, IsClient, IsGood, IsRisingFrom, AreTyped}
 use Rattle.trace_texts.specs.ReadSchedules.{SchedulesAreGood}
 use Rattle.lemmas.proofs.Lists.{each_append, each_weaker}
@@ -303,15 +303,15 @@ IsMeasured (event.Peek pid addr len) = 1 ≤ len
 IsMeasured other = Unit {0}
 
 -- what a line may say: a client whose numbers a frame can carry, an event with numbers of its types
-abbrev pub IsSaid : Said → Type 0
+abbrev pub IsSaid : Statement → Type 0
 IsSaid (Client number pid) = IsClient (number, pid)
 IsSaid (Happens event) = (is_typed event ≡ true) × IsMeasured event
 IsSaid other = Unit {0}
 
-abbrev Says : (List Value → Option Said) → List Value → Type 0
-Says says values = (said : Said) → says values ≡ Some said → IsSaid said
+abbrev Says : (List Value → Option Statement) → List Value → Type 0
+Says says values = (said : Statement) → says values ≡ Some said → IsSaid said
 
-said_so : (x : Said) → IsSaid x → (said : Said) → Some x ≡ Some said → IsSaid said
+said_so : (x : Statement) → IsSaid x → (said : Statement) → Some x ≡ Some said → IsSaid said
 said_so x good said is = subst IsSaid (some_is x said is) good
 
 abbrev IsForm : Form → Type 0
@@ -320,7 +320,7 @@ IsForm f = (values : List Value) → FitAll f.arguments values → Says f.says v
 abbrev IsBegun : Begun → Type 0
 IsBegun begun = (f : Form) → begun.0 ≡ Ok f → IsForm f
 
-begins : (args : List Argument) (says : List Value → Option Said) (ws : List Text) → ((values : List Value) → FitAll args values → Says says values) → IsBegun (form args says, ws)
+begins : (args : List Argument) (says : List Value → Option Statement) (ws : List Text) → ((values : List Value) → FitAll args values → Says says values) → IsBegun (form args says, ws)
 begins args says ws good f is = subst IsForm (ok_is (record { arguments = args; says = says }) f is) good
 
 fails : (what : What) (ws : List Text) → IsBegun (Err what, ws)
@@ -339,7 +339,7 @@ call_begins (number ∷ []) = fails MissingWord []
 call_begins (number ∷ word ∷ ws) = go (by_word word call_forms) refl where
   call_says : (f : CallForm) → ((values : List Value) → FitAll f.arguments values → Makes f.calls values) → (values : List Value) → FitAll (u16 ∷ f.arguments) values → Says (of_client f.calls) values
   call_says f good = by_number (Says (of_client f.calls)) 0 65535 f.arguments (λ n vs from to fit said is. so n vs fit said (f.calls vs) refl is) where
-    so : (n : ℕ) (vs : List Value) → FitAll f.arguments vs → (said : Said) → (o : Option CallText) → f.calls vs ≡ o
+    so : (n : ℕ) (vs : List Value) → FitAll f.arguments vs → (said : Statement) → (o : Option CallText) → f.calls vs ≡ o
         → option_map (λ (c : CallText). Happens (event.Call (record { 0 = n }) c)) o ≡ Some said → IsSaid said
     so n vs fit said None found is = absurd (no_some said is)
     so n vs fit said (Some c) found is = said_so (Happens (event.Call (record { 0 = n }) c)) (good vs fit c found, tt) said is
@@ -412,13 +412,13 @@ forms_of_lines ws = (
   ),
 )
 
-pub words_say : (texts : List Text) (said : Said) → said_by_words texts ≡ Ok said → IsSaid said
+pub words_say : (texts : List Text) (said : Statement) → said_by_words texts ≡ Ok said → IsSaid said
 words_say [] said is = absurd (no_ok UnknownWord said is)
 words_say (word ∷ ws) said is = go (by_word word (line_forms ws)) refl is where
   in_form : (f : Form) (args : List Text) → IsForm f → (o : Result (List Value) What) → arguments_in f.arguments args ≡ o → said_by f.says o ≡ Ok said → IsSaid said
   in_form f args good (Err what) found is = absurd (no_ok what said is)
   in_form f args good (Ok values) found is = so (f.says values) refl is where
-    so : (o : Option Said) → f.says values ≡ o → ◌≡◌ {A = Result Said What} (elim o [ None ↦ Err UnknownWord | Some said ↦ Ok said ]) (Ok said) → IsSaid said
+    so : (o : Option Statement) → f.says values ≡ o → ◌≡◌ {A = Result Statement What} (elim o [ None ↦ Err UnknownWord | Some said ↦ Ok said ]) (Ok said) → IsSaid said
     so None found2 is = absurd (no_ok UnknownWord said is)
     so (Some x) found2 is = good values (arguments_fit f.arguments args values found) said (found2 ∙ ap Some (ok_is x said is))
 
@@ -426,7 +426,7 @@ words_say (word ∷ ws) said is = go (by_word word (line_forms ws)) refl is wher
   begun (Err what, args) good is = absurd (no_ok what said is)
   begun (Ok f, args) good is = in_form f args (good f refl) (arguments_in f.arguments args) refl is
 
-  go : (o : Option Begun) → by_word word (line_forms ws) ≡ o → ◌≡◌ {A = Result Said What} (elim o [ None ↦ Err UnknownWord | Some b ↦ said_in_form b ]) (Ok said) → IsSaid said
+  go : (o : Option Begun) → by_word word (line_forms ws) ≡ o → ◌≡◌ {A = Result Statement What} (elim o [ None ↦ Err UnknownWord | Some b ↦ said_in_form b ]) (Ok said) → IsSaid said
   go None found is = absurd (no_ok UnknownWord said is)
   go (Some b) found is = begun b (by_word_is IsBegun (line_forms ws) (forms_of_lines ws) word b found) is
 
@@ -478,7 +478,7 @@ names_given r (event.GarbageClient client bytes) none = given (is_given r client
   given false h = grind arith
 names_given r other none = refl
 
-reads_more : (n : ℕ) (r : Reading) (line : Text) (said : Said) → IsSaid said → first_fault (said_faults r said) ≡ None → Reads n r → Reads (n + 1) (read_more r n line said)
+reads_more : (n : ℕ) (r : Reading) (line : Text) (said : Statement) → IsSaid said → first_fault (said_faults r said) ≡ None → Reads n r → Reads (n + 1) (read_more r n line said)
 reads_more n r line (Node pages buckets ring retry) good none k = record { first = let f : 1 ≤ n = k.first in omega arith; rising = k.rising; before = later n r.events k.before; typed = k.typed; known = k.known; clients = k.clients }
 reads_more n r line (Offload o) good none k = record { first = let f : 1 ≤ n = k.first in omega arith; rising = k.rising; before = later n r.events k.before; typed = k.typed; known = k.known; clients = k.clients }
 reads_more n r line (Client number pid) good none k = record {
@@ -502,7 +502,7 @@ skips : (n : ℕ) (r : Reading) → Reads n r → Reads (n + 1) r
 skips n r k = record { first = let f : 1 ≤ n = k.first in omega arith; rising = k.rising; before = later n r.events k.before; typed = k.typed; known = k.known; clients = k.clients }
 
 module _ (n : ℕ) (r : Reading) (line : Text) (k : Reads n r) where
-  said_reads : (o : Result Said What) (more : Reading) → ((said : Said) → o ≡ Ok said → IsSaid said) → judged_said r n line o ≡ Ok more → Reads (n + 1) more
+  said_reads : (o : Result Statement What) (more : Reading) → ((said : Statement) → o ≡ Ok said → IsSaid said) → judged_said r n line o ≡ Ok more → Reads (n + 1) more
   said_reads (Err what) more good is = absurd (no_ok (n, what) more is)
   said_reads (Ok said) more good is = step (first_fault (said_faults r said)) refl is where
     step : (o : Option What) → first_fault (said_faults r said) ≡ o → ◌≡◌ {A = Result Reading Fault} (elim o [ Some what ↦ Err (n, what) | None ↦ Ok (read_more r n line said) ]) (Ok more) → Reads (n + 1) more

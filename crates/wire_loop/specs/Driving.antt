@@ -10,7 +10,7 @@ use Rattle.client_model.specs.Issue.{issue_fault}
 use Rattle.client_model.specs.Hearing.{hearing, after_hearing, is_reply}
 use Rattle.cl_types.specs.Written.{call_of}
 use Rattle.texts.specs.Text.{is_empty}
-use Rattle.wire_loop.specs.Outside.{Clock, moment_of, after_answer, Received, Datagram, NothingCame, ReceivingFailed, Sendings, goes_through, after_sending}
+use Rattle.wire_loop.specs.Outside.{ClockAnswers, moment_of, after_answer, Received, Datagram, NothingCame, ReceivingFailed, Sendings, goes_through, after_sending}
 
 -- what a driven client prints, by the line of the call in the script
 pub data Printed : Type 0 where
@@ -24,7 +24,7 @@ pub record Driving (Peer : Type 0) : Type 0 where
   pub script : List (ℕ × CallText)
   -- the lines of the issued calls, by the number of the call
   pub lines : List ℕ
-  pub clock : Clock
+  pub clock : ClockAnswers
   pub receives : List (Received Peer)
   pub sendings : Sendings
   -- the frames that went to the node
@@ -44,7 +44,7 @@ abbrev pub line_of : List ℕ → ℕ → ℕ
 line_of lines n = unwrap_or (slice_get lines (n - 1)) 0
 
 -- a client that was lent with a script, before the first turn
-abbrev pub driving_of : {Peer : Type 0} → ClientState → List (ℕ × CallText) → Clock → List (Received Peer) → Sendings → Driving Peer
+abbrev pub driving_of : {Peer : Type 0} → ClientState → List (ℕ × CallText) → ClockAnswers → List (Received Peer) → Sendings → Driving Peer
 driving_of client script clock receives sendings = record {
   client = client;
   script = script;
@@ -143,13 +143,13 @@ module _ {Peer : Type 0} where
 
 -- ---- the end
 -- why a driving ends: every call ended, it stalled at a moment, or the wire failed
-pub data Stop : Type 0 where
-  AllEnded : Stop
-  Stalled : (moment : ℕ) → Stop
-  WireFailed : Stop
+pub data DriveStop : Type 0 where
+  AllEnded : DriveStop
+  Stalled : (moment : ℕ) → DriveStop
+  WireFailed : DriveStop
 
 -- before a turn: the wire failed, no call is left, or too many turns in a row were not fruitful
-abbrev pub stop_at : {Peer : Type 0} → Driving Peer → Option Stop
+abbrev pub stop_at : {Peer : Type 0} → Driving Peer → Option DriveStop
 stop_at d =
     if d.failed then Some WireFailed
     else if is_empty d.script && held d.client == 0 then Some AllEnded
@@ -157,7 +157,7 @@ stop_at d =
     else None
 
 -- from d the turns go on up to the first stop, which is this one, at e
-pub record DrivesTo {Peer : Type 0} (d e : Driving Peer) (stop : Stop) : Type 0 where
+pub record DrivesTo {Peer : Type 0} (d e : Driving Peer) (stop : DriveStop) : Type 0 where
   pub count : ℕ
   pub after : e ≡ turns count d
   pub stops : stop_at e ≡ Some stop

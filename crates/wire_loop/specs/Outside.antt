@@ -3,20 +3,20 @@ use Rattle.std.specs.Prelude.{ℕ, max, Bool, true, List, [], ◌∷◌}
 
 -- ---- a clock
 -- a clock: the moments that it still answers, in ticks, and the one that it repeats after them
-pub record Clock : Type 0 where
+pub record ClockAnswers : Type 0 where
   pub answers : List ℕ
   pub repeats : ℕ
 
 -- the clock's next answer
-abbrev pub answer_of : Clock → ℕ
+abbrev pub answer_of : ClockAnswers → ℕ
 answer_of clock = elim clock.answers [ [] ↦ clock.repeats | n ∷ ns ↦ n ]
 
 -- the clock after its next answer
-abbrev pub after_answer : Clock → Clock
+abbrev pub after_answer : ClockAnswers → ClockAnswers
 after_answer clock = record clock { answers = elim clock.answers [ [] ↦ [] | n ∷ ns ↦ ns ] }
 
 -- the greater of the clock's answer and the last moment
-abbrev pub moment_of : Clock → (last : ℕ) → ℕ
+abbrev pub moment_of : ClockAnswers → (last : ℕ) → ℕ
 moment_of clock last = max (answer_of clock) last
 
 -- ---- a wire: what each receiving gives; where a datagram comes from is a value of any type

@@ -1,15 +1,15 @@
 -- Serving a node: what comes of what a wire gives, by a clock's answers.
 use Rattle.std.specs.Prelude.{◌≡◌, ℕ, ◌+◌, Bool, true, false, leb, List, [], ◌∷◌, ◌++◌, ◌||◌, if◌then◌else◌}
 use Rattle.frame_model.specs.Frames.{Item, reply_frame, kind_of}
-use Rattle.node_model.specs.Nodes.{Node, NodeStep, Record, Said, Gives, IsBusy, step_item, items_read}
-use Rattle.wire_loop.specs.Outside.{Clock, moment_of, after_answer, Received, Datagram, NothingCame, ReceivingFailed, Sendings, goes_through, after_sending}
+use Rattle.node_model.specs.Nodes.{NodeState, NodeStep, Record, ItemAnswer, Gives, IsBusy, step_item, items_read}
+use Rattle.wire_loop.specs.Outside.{ClockAnswers, moment_of, after_answer, Received, Datagram, NothingCame, ReceivingFailed, Sendings, goes_through, after_sending}
 
 -- a node that is served: what it is given, and what was sent and counted so far
 pub record Serving (Peer : Type 0) : Type 0 where
-  pub node : Node
+  pub node : NodeState
   -- the latest moment that the node was given
   pub last : ℕ
-  pub clock : Clock
+  pub clock : ClockAnswers
   pub sendings : Sendings
   -- what was sent, and to where
   pub sent : List (Peer × List ℕ)
@@ -20,7 +20,7 @@ pub record Serving (Peer : Type 0) : Type 0 where
   pub failed : Bool
 
 -- a node that was lent, before the first turn
-abbrev pub serving_of : {Peer : Type 0} → Node → (last : ℕ) → Clock → Sendings → Serving Peer
+abbrev pub serving_of : {Peer : Type 0} → NodeState → (last : ℕ) → ClockAnswers → Sendings → Serving Peer
 serving_of node last clock sendings =
     record { node = node; last = last; clock = clock; sendings = sendings; sent = []; served = 0; idles = 0; failed = false }
 
@@ -31,7 +31,7 @@ with_reply to bytes true s = record s { sent = s.sent ++ (to, bytes) ∷ []; sen
 with_reply to bytes false s = record s { failed = true; sendings = after_sending s.sendings }
 
 -- what the node says to an item goes back: a reply is sent, and a busy node sends nothing
-abbrev pub said_back : {Peer : Type 0} → Peer → Item → Said → Serving Peer → Serving Peer
+abbrev pub said_back : {Peer : Type 0} → Peer → Item → ItemAnswer → Serving Peer → Serving Peer
 said_back to i (Gives how reply) s = with_reply to (reply_frame i.head (kind_of i.request) reply) (goes_through s.sendings) s
 said_back to i (IsBusy oldest now) s = s
 

@@ -12,12 +12,12 @@ use Rattle.texts.specs.Text.{Text, lines_in}
 use Rattle.wire_loop.specs.Printing.{printed_text}
 use Rattle.texts.specs.Words.{bytes_of_pairs}
 use Rattle.texts.specs.Grammar.{Fault, script_of}
-use Rattle.wire_loop.specs.Outside.{Clock, Received, Datagram, NothingCame, ReceivingFailed, Sendings}
+use Rattle.wire_loop.specs.Outside.{ClockAnswers, Received, Datagram, NothingCame, ReceivingFailed, Sendings}
 use Rattle.node_model.specs.Handling.{latest}
 use Rattle.node_model.specs.Nodes.{opening_node}
 use Rattle.client_model.specs.Client.{new_client}
 use Rattle.wire_loop.specs.Serving.{Serving, serving_of, served_over}
-use Rattle.wire_loop.specs.Driving.{Driving, driving_of, Stop, AllEnded, Stalled, WireFailed, DrivesTo, turns, stop_at}
+use Rattle.wire_loop.specs.Driving.{Driving, driving_of, DriveStop, AllEnded, Stalled, WireFailed, DrivesTo, turns, stop_at}
 use Rattle.worked_rows.proofs.RowTexts.{text}
 
 -- ---- frames of client 1 of process 1: a page, three bytes put into it, four read; and the replies to them
@@ -60,7 +60,7 @@ abbrev junk : List ℕ
 junk = 67 ∷ 76 ∷ []
 
 -- a clock that gives these and then this
-abbrev ticks : List ℕ → ℕ → Clock
+abbrev ticks : List ℕ → ℕ → ClockAnswers
 ticks answers then = record { answers = answers; repeats = then }
 
 -- ---- serving
@@ -75,7 +75,7 @@ abbrev babbles : ℕ → Received ℕ
 babbles from = Datagram junk from
 
 -- a node of 16 pages that keeps so many replies and was last given this moment
-abbrev lent : (retry last : ℕ) → Clock → Sendings → Serving ℕ
+abbrev lent : (retry last : ℕ) → ClockAnswers → Sendings → Serving ℕ
 lent retry last clock sendings =
     serving_of (opening_node (record { pages = 16; buckets = 8; ring = 4; retry = retry; offloads = [] })) last clock sendings
 
@@ -162,7 +162,7 @@ calls_in (Ok calls) = calls
 calls_in (Err fault) = []
 
 -- client 1 of process 1 before its first turn
-abbrev start : List Text → Clock → List (Received ℕ) → Sendings → Driving ℕ
+abbrev start : List Text → ClockAnswers → List (Received ℕ) → Sendings → Driving ℕ
 start script clock receives sendings =
     driving_of (new_client (record { 0 = 1 }) 1) (calls_in (script_of (text script))) clock receives sendings
 
@@ -171,7 +171,7 @@ abbrev output : Driving ℕ → List Text
 output d = lines_in (flat_map printed_text d.printed)
 
 -- whether the run is over before each of the first turns, and how
-abbrev stops : ℕ → Driving ℕ → List (Option Stop)
+abbrev stops : ℕ → Driving ℕ → List (Option DriveStop)
 stops count d = map (λ k. stop_at (turns k d)) (range_with_len 0 count)
 
 -- how many turns in a row were not fruitful, before each of the first turns

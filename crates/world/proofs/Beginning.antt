@@ -22,7 +22,7 @@ use Rattle.trace.specs.Clients.{pid_of}
 use Rattle.world.specs.Fields.{AreSound, IsSound, IsWithin, numbers_of, world_around, world_of}
 use Rattle.world.specs.Follows.{StandsFor, new_world, opened}
 use Rattle.world.specs.Running.{HaveNumbersApart, IsFair}
-use Rattle.world.specs.Worlds.{World, step}
+use Rattle.world.specs.Worlds.{WorldState, step}
 use Rattle.world.specs.declared.whole.Whole.{Whole}
 use Rattle.cl_types.specs.declared.schedule.Event.{Event}
 use Rattle.world.proofs.Entries.{step_grows}
@@ -122,7 +122,7 @@ pub whole_sound : (config : Config) (w : Whole) → HaveNumbersApart config → 
 whole_sound config w apart is last = record {
   world = subst (IsSound 0) (sym is) (begin_sound config apart);
   node = omega (arith, last);
-  entries = let none : length (world_of w).history ≡ 0 = ap (λ (v : World). length v.history) is in omega (arith, none);
+  entries = let none : length (world_of w).history ≡ 0 = ap (λ (v : WorldState). length v.history) is in omega (arith, none);
 }
 
 -- the parts make the world in which nothing has happened
@@ -165,6 +165,6 @@ sound_after l m old new e more h fair is timely = record {
   node = timely;
   entries =
       let grown = step_grows (world_of old) m e in
-      let same : length (world_of new).history ≡ length (step (world_of old) m e).world.history = ap (λ (v : World). length v.history) is in
+      let same : length (world_of new).history ≡ length (step (world_of old) m e).world.history = ap (λ (v : WorldState). length v.history) is in
       omega (arith, h.entries, more, grown, same);
 }

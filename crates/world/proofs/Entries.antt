@@ -20,11 +20,11 @@ use Rattle.frame_model.specs.Frames.{Item, head_in, reply_in, request_fault, req
 use Rattle.node_model.specs.Handling.{latest}
 use Rattle.client_model.specs.Hearing.{Hearing, HearsBad, HearsOther, HearsLate, HearsUnfit, HearsReply, hearing}
 use Rattle.client_model.specs.Issue.{issue_fault}
-use Rattle.node_model.specs.Nodes.{Said, Gives, IsBusy, step_item}
+use Rattle.node_model.specs.Nodes.{ItemAnswer, Gives, IsBusy, step_item}
 use Rattle.link_sim.specs.Got.{Found, Live, Expired, Absent, found_at}
 use Rattle.link_sim.specs.LinkFrames.{frame_at, next_handed, next_number}
 use Rattle.world.specs.declared.note.Note.{Note}
-use Rattle.world.specs.Worlds.{World, Stepped, arrived, call_judged, client_heard, client_in, deliver, delivered, entered, entry_of, node_judged, node_said, note_on, polled, shows, step, taken_entry, with_found, with_next}
+use Rattle.world.specs.Worlds.{WorldState, Stepped, arrived, call_judged, client_heard, client_in, deliver, delivered, entered, entry_of, node_judged, node_said, note_on, polled, shows, step, taken_entry, with_found, with_next}
 
 -- the history of the world after it has at most one entry more than these
 abbrev pub GrowsByOne : List Entry → Stepped → Type 0
@@ -49,7 +49,7 @@ taken_grows : (line : ℕ) (bytes : List ℕ) (part : Part) (o : Option Request)
 taken_grows line bytes part None es = same es
 taken_grows line bytes part (Some r) es = omega (arith, length-with_entry (record { line = line; position = 0; client = (head_in bytes).client; pid = (head_in bytes).pid; part = part; request = r; reply = reply_in bytes }) es)
 
-module _ (w : World) where
+module _ (w : WorldState) where
   found_grows : (o : Option ClientState) (go : ClientState → Stepped) → ((s : ClientState) → GrowsByOne w.history (go s)) → GrowsByOne w.history (with_found w o go)
   found_grows None go each = same w.history
   found_grows (Some s) go each = each s
@@ -65,7 +65,7 @@ module _ (w : World) where
   polled_grows l s (Sends (o ∷ items)) = same w.history
   polled_grows l s Idles = same w.history
 
-  said_grows : (l k : ℕ) (part : Part) (i : Item) (x : Said) → GrowsByOne w.history (node_said w l k part i x)
+  said_grows : (l k : ℕ) (part : Part) (i : Item) (x : ItemAnswer) → GrowsByOne w.history (node_said w l k part i x)
   said_grows l k part i (IsBusy oldest at) = same w.history
   said_grows l k part i (Gives h reply) = entered_grows h (entry_of l part i reply) w.history
 
@@ -76,13 +76,13 @@ module _ (w : World) where
   heard_grows k line note s bytes (HearsOther c) = same w.history
   heard_grows k line note s bytes (HearsBad fault) = same w.history
 
-bytes_grow : (w : World) (l k : ℕ) (part : Part) (bytes : List ℕ) (o : Option BadFrame) → GrowsByOne w.history (node_judged w l k part bytes o)
+bytes_grow : (w : WorldState) (l k : ℕ) (part : Part) (bytes : List ℕ) (o : Option BadFrame) → GrowsByOne w.history (node_judged w l k part bytes o)
 bytes_grow w l k part bytes (Some fault) = same w.history
 bytes_grow w l k part bytes None =
     let i : Item = record { head = head_in bytes; request = request_in bytes } in
     said_grows (record w { node = (step_item latest w.node w.moment i).node }) l k part i (step_item latest w.node w.moment i).said
 
-module _ (w : World) where
+module _ (w : WorldState) where
   arrived_grows : (l k : ℕ) (note : Option Note) (bytes : List ℕ) (end : End) (sent : ℕ) → GrowsByOne w.history (arrived w l k note bytes end sent)
   arrived_grows l k None bytes end sent = same w.history
   arrived_grows l k (Some note) bytes to.Node sent = bytes_grow w l k note.part bytes (request_fault bytes)
@@ -97,11 +97,11 @@ module _ (w : World) where
   deliver_grows : (l k : ℕ) → GrowsByOne w.history (deliver w l k)
   deliver_grows l k = delivered_grows l k (note_on w.notes k) (found_at w.moment (frame_at w.link k))
 
-  next_grows : (o : Option ℕ) (go : World → ℕ → Stepped) → ((k : ℕ) → GrowsByOne w.history (go (record w { link = next_handed w.link }) k)) → GrowsByOne w.history (with_next w go o)
+  next_grows : (o : Option ℕ) (go : WorldState → ℕ → Stepped) → ((k : ℕ) → GrowsByOne w.history (go (record w { link = next_handed w.link }) k)) → GrowsByOne w.history (with_next w go o)
   next_grows None go each = same w.history
   next_grows (Some k) go each = each k
 
-pub step_grows : (w : World) (l : ℕ) (e : Event) → GrowsByOne w.history (step w l e)
+pub step_grows : (w : WorldState) (l : ℕ) (e : Event) → GrowsByOne w.history (step w l e)
 step_grows w l (event.Call c text) = found_grows w (client_in w.clients c) (λ s. call_judged w s (call_of text) (issue_fault s (call_of text))) (λ s. judged_grows w s (call_of text) (issue_fault s (call_of text)))
 step_grows w l (event.Poll c) = found_grows w (client_in w.clients c) (λ s. polled w l s (poll s w.moment)) (λ s. polled_grows w l s (poll s w.moment))
 step_grows w l (event.Deliver frame) = deliver_grows w l frame

@@ -39,7 +39,7 @@ use Rattle.frame_model.specs.Frames.{Item, head_in, kind_of, status_in, reply_fa
 use Rattle.node_model.specs.Handling.{latest}
 use Rattle.client_model.specs.Hearing.{hearing}
 use Rattle.client_model.specs.Issue.{issue_fault, after_judged}
-use Rattle.node_model.specs.Nodes.{Node, NodeStep, Said, Gives, IsBusy, node_after, said_to, step_item}
+use Rattle.node_model.specs.Nodes.{NodeState, NodeStep, ItemAnswer, Gives, IsBusy, node_after, said_to, step_item}
 use Rattle.client_model.specs.Order.{is_fence}
 use Rattle.cl_types.specs.Pages.{page_of}
 use Rattle.flat_model.specs.Run.{after, changing_of}
@@ -63,7 +63,7 @@ use Rattle.trace_laws.proofs.Spelled.{frames_are_spelled, replies_are_heard, ris
 use Rattle.trace_laws.proofs.TimesKept.{frame_at_each}
 use Rattle.trace_laws.proofs.WindowKept.{one_account}
 use Rattle.world.specs.declared.note.Note.{Note}
-use Rattle.world.specs.Worlds.{World, Stepped, arrived, call_judged, client_heard, client_in, deliver, delivered, garbage, node_judged, node_said, node_stepped, note_on, peeked, polled, frame_shown, shows, step, taken_entry, with_client, with_found, with_next}
+use Rattle.world.specs.Worlds.{WorldState, Stepped, arrived, call_judged, client_heard, client_in, deliver, delivered, garbage, node_judged, node_said, node_stepped, note_on, peeked, polled, frame_shown, shows, step, taken_entry, with_client, with_found, with_next}
 use Rattle.world.specs.Follows.{HaveNotes, IsNoteOf, IsReadOff, StandsOn, WorldsFollow, sent_as}
 
 -- ---- clients
@@ -154,7 +154,7 @@ record Here (config : Config) (a : Account) (l : ℕ) (event : Event) : Type 0 w
 
 module _ (config : Config) (a : Account) (l : ℕ) where
   -- the world that is read off the account, with these notes, and so many frames handed out
-  abbrev read : List Note → ℕ → World
+  abbrev read : List Note → ℕ → WorldState
   read notes handed = record {
     moment = now a l;
     node = node_at config a;
@@ -165,7 +165,7 @@ module _ (config : Config) (a : Account) (l : ℕ) where
   }
 
   -- what an effect and a step have in common, where the node and the clients are left so
-  record Agree (event : Event) (n : Node) (g : ClientNo × ℕ → ClientState) (handed : ℕ) (e : Effect) (s : Stepped) : Type 0 where
+  record Agree (event : Event) (n : NodeState) (g : ClientNo × ℕ → ClientState) (handed : ℕ) (e : Effect) (s : Stepped) : Type 0 where
     told : e.texts ≡ s.did ∷ []
     ended : e.ended ≡ s.ended
     moment : s.world.moment ≡ now a l + ticks_of event
@@ -317,7 +317,7 @@ module _ (config : Config) (a : Account) (l : ℕ) where
 
   -- ---- a delivery
   -- agreement on a delivery: which frame is next isn't asked, and its text isn't that there is none
-  record Delivers (event : Event) (n : Node) (g : ClientNo × ℕ → ClientState) (handed : ℕ) (e : Effect) (s : Stepped) : Type 0 where
+  record Delivers (event : Event) (n : NodeState) (g : ClientNo × ℕ → ClientState) (handed : ℕ) (e : Effect) (s : Stepped) : Type 0 where
     agrees : Agree event n g handed e s
     finds : found_none s.did ≡ false
 
@@ -332,7 +332,7 @@ module _ (config : Config) (a : Account) (l : ℕ) where
       numbered : (client : ClientNo) (how : How) (status : ℕ) → did.Handled k client i.part how status (next_frame_number a) ≡ did.Handled k client i.part how status (length (map sent_as a.frames) + 1)
       numbered client how status = ap (λ n. did.Handled k client i.part how status (n + 1)) (sym (map-length sent_as a.frames))
 
-      go : (said : Said) → Delivers event s.node same_client_states out (then_also (on_said a l k 0 i said) nothing_happens) (node_said (record (read notes out) { node = s.node }) l k i.part i.item said)
+      go : (said : ItemAnswer) → Delivers event s.node same_client_states out (then_also (on_said a l k 0 i said) nothing_happens) (node_said (record (read notes out) { node = s.node }) l k i.part i.item said)
       go (IsBusy oldest at) = record {
         agrees = record { told = refl; ended = refl; moment = same_moment; node = refl; clients = refl; frames = same_frames; handed_out = refl; notes = no_frames notes have; history = refl };
         finds = refl;
@@ -466,7 +466,7 @@ module _ (config : Config) (a : Account) (l : ℕ) where
 
     load_agrees : (k : ℕ) (f : Frame) (note : Note) → frame_at a k ≡ Some f → (load : Load) → f.load ≡ load → SpellsLoad f.bytes f.line load → IsNoteOf load note
         → Delivers event (node_after_load (now a l) load (node_at config a)) (λ (d : ClientNo × ℕ). after_load load (client_at config a d.0)) out (handed (latest config.node.retry) config a l k load)
-        (arrived (read notes out) l k (Some note) f.bytes (elim load [ Asks items ↦ to.Node | Answers head reply if_taken ↦ to.Client head.client ]) f.line)
+        (arrived (read notes out) l k (Some note) f.bytes (elim load [ Asks items ↦ to.NodeState | Answers head reply if_taken ↦ to.Client head.client ]) f.line)
     load_agrees k f note is (Asks items) carries spells its = asks_agree k f items note is carries spells its
     load_agrees k f note is (Answers head reply if_taken) carries spells its = answers_agree k f head reply if_taken note is carries spells its
 
@@ -527,7 +527,7 @@ module _ (config : Config) (a : Account) (l : ℕ) where
   counts : (e : Effect) (d : Did) → e.texts ≡ d ∷ [] → found_none d ≡ false → taken_in_order a + 1 ≡ taken_in_order a + cond (true && not (list_any found_none e.texts)) 1 0
   counts e d told finds = ap (λ b. taken_in_order a + cond (not b) 1 0) (sym (ap (list_any found_none) told ∙ ap (λ b. b || false) finds))
 
-  next_world : (notes : List Note) → (go : World → ℕ → Stepped) → (b : Bool) → nat_lt (taken_in_order a) (length (map sent_as a.frames)) ≡ b
+  next_world : (notes : List Note) → (go : WorldState → ℕ → Stepped) → (b : Bool) → nat_lt (taken_in_order a) (length (map sent_as a.frames)) ≡ b
       → with_next (read notes (taken_in_order a)) go (next_number (read notes (taken_in_order a)).link)
       ≡ cond b (go (read notes (taken_in_order a + 1)) (taken_in_order a + 1)) (shows (read notes (taken_in_order a)) did.NoFrame)
   next_world notes go true has =

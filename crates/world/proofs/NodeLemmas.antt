@@ -14,14 +14,14 @@ use Rattle.frame_model.proofs.ReplyFrameLemmas.{replies_are_read_again}
 use Rattle.frame_model.specs.FrameLaws.{ReadsAsReply, ReadsAsRequest}
 use Rattle.frame_model.specs.Frames.{IsHead, Item, head_in, is_reply_of, kind_of, reply_frame, reply_in, request_fault, request_in, status_in}
 use Rattle.node_model.specs.Handling.{latest}
-use Rattle.node_model.specs.Nodes.{Node, NodeStep, Said as NodeSaid, Gives, IsBusy, Refuses, answer_judged, items_judged, node_after, node_answer, node_given, step_item}
+use Rattle.node_model.specs.Nodes.{NodeState, NodeStep, ItemAnswer as NodeSaid, Gives, IsBusy, Refuses, answer_judged, items_judged, node_after, node_answer, node_given, step_item}
 use Rattle.node_core.specs.Keeping.{IsCarried, Tells, TellsSaid}
 use Rattle.node_core.specs.declared.outcome.Outcome.{Outcome}
 use Rattle.node_core.specs.declared.outcome.Outcome.TheVariants as outcome
-use Rattle.world.specs.declared.ask.Said.{Said}
-use Rattle.world.specs.declared.ask.Said.TheVariants as said
+use Rattle.world.specs.declared.ask.FrameAnswer.{FrameAnswer}
+use Rattle.world.specs.declared.ask.FrameAnswer.TheVariants as said
 use Rattle.world.specs.Saying.{IsReadable, IsSaid, IsSaidTo, IsShort, answered_step, made_in, said_step}
-use Rattle.world.specs.Worlds.{World, Stepped, entered, entry_of, looked_by, next_frame, node_judged, node_said, sends_frame, shows}
+use Rattle.world.specs.Worlds.{WorldState, Stepped, entered, entry_of, looked_by, next_frame, node_judged, node_said, sends_frame, shows}
 
 -- ---- the outcome of a request
 -- the reply to an execution is read again in its frame
@@ -53,7 +53,7 @@ readable_of item (IsBusy oldest at) (outcome.Replied len told status) out head t
 readable_of item (IsBusy oldest at) (outcome.Busy since now) out head tells = tt
 readable_of item (IsBusy oldest at) (outcome.Bad fault) out head tells = absurd tells
 
-module _ (n : Node) (t : ℕ) (frame : List ℕ) where
+module _ (n : NodeState) (t : ℕ) (frame : List ℕ) where
   -- the item that the bytes spell
   abbrev item_there : Item
   item_there = record { head = head_in frame; request = request_in frame }
@@ -81,7 +81,7 @@ module _ (n : Node) (t : ℕ) (frame : List ℕ) where
         tells = told;
       }
 
-  pub asked_said : (head : Head) (body : Request) (s : Said) (out : List ℕ) → ReadsAsRequest frame head body
+  pub asked_said : (head : Head) (body : Request) (s : FrameAnswer) (out : List ℕ) → ReadsAsRequest frame head body
       → IsSaidTo (record { head = head; request = body }) (said_there (record { head = head; request = body })) s out
       → IsSaid frame (node_answer latest n t frame) s out
   asked_said head body s out reads told =
@@ -104,7 +104,7 @@ answers_said item (IsBusy since at) len told status out head tells = absurd tell
 
 -- ---- the step
 module _ (l k : ℕ) (part : Part) where
-  module _ (i : Item) (reply : Reply) (len : ℕ) (out : List ℕ) (bytes : take len out ≡ reply_frame i.head (kind_of i.request) reply) (v : World) where
+  module _ (i : Item) (reply : Reply) (len : ℕ) (out : List ℕ) (bytes : take len out ≡ reply_frame i.head (kind_of i.request) reply) (v : WorldState) where
     -- the step, with these bytes sent
     abbrev sending : How → List ℕ → Stepped
     sending h sent =
@@ -119,7 +119,7 @@ module _ (l k : ℕ) (part : Part) where
     answered_so how.Looked = ap (sending how.Looked) (sym bytes)
 
   -- what the node says to an item is the step of what is told of it
-  item_so : (i : Item) (x : NodeSaid) (s : Said) (out : List ℕ) → IsSaidTo i x s out → (v : World) → node_said v l k part i x ≡ said_step v l k part s out
+  item_so : (i : Item) (x : NodeSaid) (s : FrameAnswer) (out : List ℕ) → IsSaidTo i x s out → (v : WorldState) → node_said v l k part i x ≡ said_step v l k part s out
   item_so i (Gives h reply) (said.Answers a) out told v =
       answered_so i reply a.len out told.3 v h
       ∙ (λ j. answered_step v l k part (record { head = sym told.0 j; made = sym told.1 j; status = sym told.2 j; len = a.len }) out)
@@ -129,14 +129,14 @@ module _ (l k : ℕ) (part : Part) where
   item_so i (IsBusy oldest at) (said.Bad fault) out told v = absurd told
   item_so i (IsBusy oldest at) (said.Answers a) out told v = absurd told
 
-  module _ (w : World) (frame : List ℕ) (n : Node) where
-    refused_so : (fault : BadFrame) (s : Said) (out : List ℕ) → n ≡ w.node → IsSaid frame (Refuses fault) s out → shows w (did.Bad fault) ≡ said_step (record w { node = n }) l k part s out
+  module _ (w : WorldState) (frame : List ℕ) (n : NodeState) where
+    refused_so : (fault : BadFrame) (s : FrameAnswer) (out : List ℕ) → n ≡ w.node → IsSaid frame (Refuses fault) s out → shows w (did.Bad fault) ≡ said_step (record w { node = n }) l k part s out
     refused_so fault (said.Bad told) out is same = λ j. shows (record w { node = sym is j }) (did.Bad (sym same j))
     refused_so fault (said.Busy client since now) out is same = absurd same
     refused_so fault (said.Answers a) out is same = absurd same
 
     -- bytes that came to the node are the step of what is told of them
-    pub node_so : (s : Said) (out : List ℕ) → n ≡ node_given latest w.node w.moment frame → IsSaid frame (node_answer latest w.node w.moment frame) s out
+    pub node_so : (s : FrameAnswer) (out : List ℕ) → n ≡ node_given latest w.node w.moment frame → IsSaid frame (node_answer latest w.node w.moment frame) s out
         → node_judged w l k part frame (request_fault frame) ≡ said_step (record w { node = n }) l k part s out
     node_so s out is told = go (request_fault frame) is told where
       go : (o : Option BadFrame) → n ≡ node_after latest w.node w.moment (items_judged frame o) → IsSaid frame (answer_judged latest w.node w.moment frame o) s out
@@ -145,4 +145,4 @@ module _ (l k : ℕ) (part : Part) where
       go None is told =
           let i : Item = record { head = head_in frame; request = request_in frame } in
           let step : NodeStep = step_item latest w.node w.moment i in
-          item_so i step.said s out told (record w { node = step.node }) ∙ ap (λ (m : Node). said_step (record w { node = m }) l k part s out) (sym is)
+          item_so i step.said s out told (record w { node = step.node }) ∙ ap (λ (m : NodeState). said_step (record w { node = m }) l k part s out) (sym is)

@@ -25,14 +25,14 @@ use Rattle.frame_model.specs.Frames.{Item, head_in, request_fault, request_in}
 use Rattle.node_model.specs.Handling.{latest}
 use Rattle.client_model.specs.Hearing.{Hearing, HearsBad, HearsOther, HearsLate, HearsUnfit, HearsReply, hearing}
 use Rattle.client_model.specs.Issue.{issue_fault}
-use Rattle.node_model.specs.Nodes.{Node, Said, Gives, IsBusy, step_item}
+use Rattle.node_model.specs.Nodes.{NodeState, ItemAnswer, Gives, IsBusy, step_item}
 use Rattle.trace.specs.Properties.{IsInOrder}
 use Rattle.link_sim.specs.Got.{Found, Live, Expired, Absent, found_at}
 use Rattle.link_sim.specs.LinkFrames.{LinkFrames, SentFrame, frame_at, next_handed, next_number}
 use Rattle.world.specs.declared.note.Note.{Note}
 use Rattle.world.specs.Fields.{IsSound, IsWithin, numbers_of}
 use Rattle.world.specs.Running.{IsFair}
-use Rattle.world.specs.Worlds.{World, Stepped, arrived, call_judged, client_heard, client_in, client_stands, deliver, delivered, entered, entry_of, node_judged, node_said, note_on, polled, sends_frame, shows, step, taken_entry, with_client, with_found, with_next}
+use Rattle.world.specs.Worlds.{WorldState, Stepped, arrived, call_judged, client_heard, client_in, client_stands, deliver, delivered, entered, entry_of, node_judged, node_said, note_on, polled, sends_frame, shows, step, taken_entry, with_client, with_found, with_next}
 use Rattle.lemmas.proofs.Lists.{each_weaker}
 use Rattle.trace.proofs.HistoryLemmas.{order_with_entry}
 
@@ -73,7 +73,7 @@ taken_order line bytes part None es order = order
 taken_order line bytes part (Some r) es order = order_with_entry _ es order
 
 -- ---- worlds
-pub sound_later : (l m : ℕ) (w : World) → l ≤ m → IsSound l w → IsSound m w
+pub sound_later : (l m : ℕ) (w : WorldState) → l ≤ m → IsSound l w → IsSound m w
 sound_later l m w more h = record {
   moment = omega (arith, h.moment);
   frames = omega (arith, h.frames);
@@ -84,7 +84,7 @@ sound_later l m w more h = record {
 }
 
 -- a client stands otherwise, at its place
-client_sound : (l : ℕ) (w : World) (s : ClientState) → IsSound l w → s.issued ≤ l → s.last ≤ w.moment → IsSound l (client_stands w s)
+client_sound : (l : ℕ) (w : WorldState) (s : ClientState) → IsSound l w → s.issued ≤ l → s.last ≤ w.moment → IsSound l (client_stands w s)
 client_sound l w s h issued last = record {
   moment = h.moment;
   frames = h.frames;
@@ -95,7 +95,7 @@ client_sound l w s h issued last = record {
 }
 
 -- a frame more was sent
-sent_sound : (l m : ℕ) (w : World) (line : ℕ) (end : End) (bytes : List ℕ) (note : Note) → IsSound l w → l < m → IsSound m (sends_frame w line end bytes note)
+sent_sound : (l m : ℕ) (w : WorldState) (line : ℕ) (end : End) (bytes : List ℕ) (note : Note) → IsSound l w → l < m → IsSound m (sends_frame w line end bytes note)
 sent_sound l m w line end bytes note h more =
     let later = sound_later l m w (omega (arith, more)) h in
     let frame : SentFrame = record { moment = w.moment; end = end; bytes = bytes; line = line } in
@@ -109,7 +109,7 @@ sent_sound l m w line end bytes note h more =
       order = h.order;
     }
 
-module _ (l m : ℕ) (more : l < m) (w : World) (h : IsSound l w) where
+module _ (l m : ℕ) (more : l < m) (w : WorldState) (h : IsSound l w) where
   same : IsSound m w
   same = sound_later l m w (omega (arith, more)) h
 
@@ -148,11 +148,11 @@ module _ (l m : ℕ) (more : l < m) (w : World) (h : IsSound l w) where
   polled_sound line s (GivesUp f) within = sound_later l m _ (omega (arith, more)) (stands_sound (GivesUp f) s within)
   polled_sound line s (EndsFence n) within = sound_later l m _ (omega (arith, more)) (stands_sound (EndsFence n) s within)
   polled_sound line s (Sends []) within = sound_later l m _ (omega (arith, more)) (stands_sound (Sends []) s within)
-  polled_sound line s (Sends (o ∷ items)) within = sent_sound l m _ line to.Node _ _ (stands_sound (Sends (o ∷ items)) s within) more
+  polled_sound line s (Sends (o ∷ items)) within = sent_sound l m _ line to.NodeState _ _ (stands_sound (Sends (o ∷ items)) s within) more
   polled_sound line s Idles within = sound_later l m _ (omega (arith, more)) (stands_sound Idles s within)
 
   -- the node or the history is another
-  beside : (v : World) → v.moment ≡ w.moment → v.clients ≡ w.clients → v.link ≡ w.link → v.notes ≡ w.notes → IsInOrder v.history → IsSound l v
+  beside : (v : WorldState) → v.moment ≡ w.moment → v.clients ≡ w.clients → v.link ≡ w.link → v.notes ≡ w.notes → IsInOrder v.history → IsSound l v
   beside v moment clients link notes order = record {
     moment = subst (λ n. n ≤ 1000000000 * l) (sym moment) h.moment;
     frames = subst (λ (k : LinkFrames). length k.frames ≤ l) (sym link) h.frames;
@@ -172,23 +172,23 @@ module _ (l m : ℕ) (more : l < m) (w : World) (h : IsSound l w) where
   heard_sound k line note s bytes (HearsOther c) within = same
   heard_sound k line note s bytes (HearsBad fault) within = same
 
-said_sound : (l m : ℕ) (w : World) (line k : ℕ) (part : Part) (i : Item) (x : Said) → l < m → IsSound l w → IsSound m (node_said w line k part i x).world
+said_sound : (l m : ℕ) (w : WorldState) (line k : ℕ) (part : Part) (i : Item) (x : ItemAnswer) → l < m → IsSound l w → IsSound m (node_said w line k part i x).world
 said_sound l m w line k part i (IsBusy oldest at) more h = sound_later l m w (omega (arith, more)) h
 said_sound l m w line k part i (Gives x reply) more h =
     let entries : List Entry = entered x (entry_of line part i reply) w.history in
     sent_sound l m (record w { history = entries }) line _ _ _ (beside l m more w h (record w { history = entries }) refl refl refl refl (entered_order x (entry_of line part i reply) w.history h.order)) more
 
-module _ (l m : ℕ) (more : l < m) (w : World) (h : IsSound l w) where
+module _ (l m : ℕ) (more : l < m) (w : WorldState) (h : IsSound l w) where
   bytes_sound : (line k : ℕ) (part : Part) (bytes : List ℕ) (o : Option BadFrame) → IsSound m (node_judged w line k part bytes o).world
   bytes_sound line k part bytes (Some fault) = same l m more w h
   bytes_sound line k part bytes None =
       let i : Item = record { head = head_in bytes; request = request_in bytes } in
-      let n : Node = (step_item latest w.node w.moment i).node in
+      let n : NodeState = (step_item latest w.node w.moment i).node in
       said_sound l m (record w { node = n }) line k part i (step_item latest w.node w.moment i).said more (beside l m more w h (record w { node = n }) refl refl refl refl h.order)
 
   arrived_sound : (line k : ℕ) (note : Option Note) (bytes : List ℕ) (end : End) (sent : ℕ) → IsSound m (arrived w line k note bytes end sent).world
   arrived_sound line k None bytes end sent = same l m more w h
-  arrived_sound line k (Some note) bytes to.Node sent = bytes_sound line k note.part bytes (request_fault bytes)
+  arrived_sound line k (Some note) bytes to.NodeState sent = bytes_sound line k note.part bytes (request_fault bytes)
   arrived_sound line k (Some note) bytes (to.Client c) sent =
       found_sound l m more w h c (client_in w.clients c) (λ s. client_heard w k sent note s bytes (hearing s bytes)) refl (λ s within. heard_sound l m more w h k sent note s bytes (hearing s bytes) within)
 
@@ -207,7 +207,7 @@ handed_frames link = go (nat_lt link.handed_out (length link.frames)) where
   go true = refl
   go false = refl
 
-pub handed_sound : (l : ℕ) (w : World) → IsSound l w → IsSound l (record w { link = next_handed w.link })
+pub handed_sound : (l : ℕ) (w : WorldState) → IsSound l w → IsSound l (record w { link = next_handed w.link })
 handed_sound l w h = record {
   moment = h.moment;
   frames = subst (λ (fs : List SentFrame). length fs ≤ l) (sym (handed_frames w.link)) h.frames;
@@ -217,8 +217,8 @@ handed_sound l w h = record {
   order = h.order;
 }
 
-module _ (l m : ℕ) (more : l < m) (w : World) (h : IsSound l w) where
-  next_sound : (o : Option ℕ) (go : World → ℕ → Stepped) → ((v : World) (k : ℕ) → IsSound l v → IsSound m (go v k).world) → IsSound m (with_next w go o).world
+module _ (l m : ℕ) (more : l < m) (w : WorldState) (h : IsSound l w) where
+  next_sound : (o : Option ℕ) (go : WorldState → ℕ → Stepped) → ((v : WorldState) (k : ℕ) → IsSound l v → IsSound m (go v k).world) → IsSound m (with_next w go o).world
   next_sound None go each = same l m more w h
   next_sound (Some k) go each = each (record w { link = next_handed w.link }) k (handed_sound l w h)
 

@@ -19,19 +19,19 @@ use Rattle.cl_types.specs.Parts.{same_client}
 use Rattle.node_model.specs.Handling.{latest}
 use Rattle.client_model.specs.Hearing.{Hearing, HearsBad, HearsOther, HearsLate, HearsUnfit, HearsReply, hearing}
 use Rattle.client_model.specs.Issue.{issue_fault}
-use Rattle.node_model.specs.Nodes.{Node, node_answer, node_given}
+use Rattle.node_model.specs.Nodes.{NodeState, node_answer, node_given}
 use Rattle.link_sim.specs.Got.{Live, found_at}
 use Rattle.link_sim.specs.LinkFrames.{frame_at}
-use Rattle.world.specs.declared.ask.Said.{Said}
+use Rattle.world.specs.declared.ask.FrameAnswer.{FrameAnswer}
 use Rattle.world.specs.declared.listen.Listened.{Listened}
 use Rattle.world.specs.declared.listen.Listened.TheVariants as listened
 use Rattle.world.specs.declared.note.Note.{Note}
-use Rattle.world.specs.declared.turn.Turned.{Turned}
-use Rattle.world.specs.declared.turn.Turned.TheVariants as turned
+use Rattle.world.specs.declared.turn.ClientTurn.{ClientTurn}
+use Rattle.world.specs.declared.turn.ClientTurn.TheVariants as turned
 use Rattle.world.specs.Fields.{numbers_of}
 use Rattle.world.specs.Running.{stepped}
 use Rattle.world.specs.Saying.{IsListened, IsSaid, IsTurned, issue_did, listened_step, look_entry, said_step, state_heard, turned_step, with_look}
-use Rattle.world.specs.Worlds.{World, arrived, call_judged, client_heard, client_in, client_stands, deliver, delivered, next_frame, note_on, polled, sends_frame, shows, taken_entry, with_found}
+use Rattle.world.specs.Worlds.{WorldState, arrived, call_judged, client_heard, client_in, client_stands, deliver, delivered, next_frame, note_on, polled, sends_frame, shows, taken_entry, with_found}
 use Rattle.world.proofs.ClientLemmas.{changed_at, same_at}
 use Rattle.world.proofs.ListenLemmas.{as_heard}
 use Rattle.world.proofs.NodeLemmas.{node_so}
@@ -51,15 +51,15 @@ found_number (x ∷ clients) c s is = go (same_client c x.client) refl is (found
 
 -- ---- a call
 -- the clients after a call was judged
-pub issued_so : (w : World) (at : ℕ) (s : ClientState) (k : Call) (o : Option IssueFault) → slice_get w.clients at ≡ Some s → AreApart (numbers_of w.clients)
+pub issued_so : (w : WorldState) (at : ℕ) (s : ClientState) (k : Call) (o : Option IssueFault) → slice_get w.clients at ≡ Some s → AreApart (numbers_of w.clients)
     → record { did = issue_did s o; ended = None; world = record w { clients = set w.clients at (issue_state s k o) } } ≡ call_judged w s k o
 issued_so w at s k (Some fault) there apart = ap (λ xs. shows (record w { clients = xs }) (did.NotIssued fault)) (same_at w.clients at s there)
 issued_so w at s k None there apart =
     ap (λ xs. shows (record w { clients = xs }) (did.Issued s.client (record { 0 = s.issued + 1 }))) (sym (changed_at w.clients at s (after_issue k s) there refl apart))
 
 -- ---- a poll
-module _ (w : World) (l : ℕ) (s : ClientState) where
-  turned_one : (p : Polled) (t : Turned) (out : List ℕ) → IsTurned s w.moment p t out → turned_step (client_stands w (after_poll w.moment p s)) l s.client t out ≡ polled w l s p
+module _ (w : WorldState) (l : ℕ) (s : ClientState) where
+  turned_one : (p : Polled) (t : ClientTurn) (out : List ℕ) → IsTurned s w.moment p t out → turned_step (client_stands w (after_poll w.moment p s)) l s.client t out ≡ polled w l s p
   turned_one (GivesUp f) (turned.Quiet line) out told = λ i. record { did = told.0 i; ended = told.1 i; world = client_stands w (after_poll w.moment (GivesUp f) s) }
   turned_one (GivesUp f) (turned.Sends len part id orig again) out told = absurd told
   turned_one (EndsFence n) (turned.Quiet line) out told = λ i. record { did = told.0 i; ended = told.1 i; world = client_stands w (after_poll w.moment (EndsFence n) s) }
@@ -67,14 +67,14 @@ module _ (w : World) (l : ℕ) (s : ClientState) where
   turned_one (Sends []) t out told = absurd told
   turned_one (Sends (o ∷ [])) (turned.Quiet line) out told = absurd told
   turned_one (Sends (o ∷ [])) (turned.Sends len part id orig again) out told = λ i. shows
-      (sends_frame (client_stands w (after_poll w.moment (Sends (o ∷ [])) s)) l to.Node (told.4 i) (record { part = told.0 i; looked = None }))
+      (sends_frame (client_stands w (after_poll w.moment (Sends (o ∷ [])) s)) l to.NodeState (told.4 i) (record { part = told.0 i; looked = None }))
       (cond (told.3 i) (did.Again (next_frame w) s.client (told.0 i) (told.1 i) (told.2 i)) (did.Sent (next_frame w) s.client (told.0 i) (told.1 i)))
   turned_one (Sends (o ∷ u ∷ items)) t out told = absurd told
   turned_one Idles (turned.Quiet line) out told = λ i. record { did = told.0 i; ended = told.1 i; world = client_stands w (after_poll w.moment Idles s) }
   turned_one Idles (turned.Sends len part id orig again) out told = absurd told
 
 -- the step of a poll, by what is told of it, where the client stands at its place
-pub turned_so : (w : World) (l at : ℕ) (s new : ClientState) (p : Polled) (t : Turned) (out : List ℕ) → slice_get w.clients at ≡ Some s → AreApart (numbers_of w.clients)
+pub turned_so : (w : WorldState) (l at : ℕ) (s new : ClientState) (p : Polled) (t : ClientTurn) (out : List ℕ) → slice_get w.clients at ≡ Some s → AreApart (numbers_of w.clients)
     → new ≡ handed_out (after_poll w.moment p s) → IsTurned s w.moment p t out → turned_step (record w { clients = set w.clients at new }) l s.client t out ≡ polled w l s p
 turned_so w l at s new p t out there apart is told =
     ap (λ (xs : List ClientState). turned_step (record w { clients = xs }) l s.client t out)
@@ -88,7 +88,7 @@ taken_is line bytes note h = go note.looked where
   go None = refl
   go (Some r) = refl
 
-listened_so : (w : World) (k line at : ℕ) (s new : ClientState) (bytes : List ℕ) (note : Note) (h : Hearing) (t : Listened) → slice_get w.clients at ≡ Some s → AreApart (numbers_of w.clients)
+listened_so : (w : WorldState) (k line at : ℕ) (s new : ClientState) (bytes : List ℕ) (note : Note) (h : Hearing) (t : Listened) → slice_get w.clients at ≡ Some s → AreApart (numbers_of w.clients)
     → new ≡ state_heard s h → IsListened s bytes note line h t → listened_step (record w { clients = set w.clients at new }) k s.client t ≡ client_heard w k line note s bytes h
 listened_so w k line at s new bytes note (HearsBad f) (listened.Bad fault) there apart is told =
     λ i. shows (record w { clients = (ap (set w.clients at) is ∙ same_at w.clients at s there) i }) (did.Bad (told i))
@@ -123,20 +123,20 @@ listened_so w k line at s new bytes note (HearsReply f reply) listened.Other the
 listened_so w k line at s new bytes note (HearsReply f reply) (listened.Late o) there apart is told = absurd told
 
 -- ---- a delivery
-module _ (w : World) (l k : ℕ) where
+module _ (w : WorldState) (l k : ℕ) where
   pub live : (note : Note) (bytes : List ℕ) (end : End) (line : ℕ) → note_on w.notes k ≡ Some note → found_at w.moment (frame_at w.link k) ≡ Live bytes end line
       → deliver w l k ≡ arrived w l k (Some note) bytes end line
   live note bytes end line noted found = λ i. delivered w l k (noted i) (found i)
 
 -- ---- what the code found
-pub record IsThere (w : World) (number : ClientNo) (at : ℕ) (s : ClientState) : Type 0 where
+pub record IsThere (w : WorldState) (number : ClientNo) (at : ℕ) (s : ClientState) : Type 0 where
   pub at_place : slice_get w.clients at ≡ Some s
   pub found : client_in w.clients number ≡ Some s
 
-pub is_there : (w : World) (number : ClientNo) (at : ℕ) (s : ClientState) → slice_get w.clients at ≡ client_in w.clients number → slice_get w.clients at ≡ Some s → IsThere w number at s
+pub is_there : (w : WorldState) (number : ClientNo) (at : ℕ) (s : ClientState) → slice_get w.clients at ≡ client_in w.clients number → slice_get w.clients at ≡ Some s → IsThere w number at s
 is_there w number at s found place = record { at_place = place; found = sym found ∙ place }
 
-pub called_so : (w : World) (number : ClientNo) (k : Call) (at : ℕ) (s new : ClientState) (d : Did) (told : EventLine) → IsThere w number at s → AreApart (numbers_of w.clients)
+pub called_so : (w : WorldState) (number : ClientNo) (k : Call) (at : ℕ) (s new : ClientState) (d : Did) (told : EventLine) → IsThere w number at s → AreApart (numbers_of w.clients)
     → told.did ≡ d → told.ended ≡ None → d ≡ issue_did s (issue_fault s k) → new ≡ issue_state s k (issue_fault s k)
     → stepped told (record w { clients = set w.clients at new }) ≡ with_found w (client_in w.clients number) (λ x. call_judged w x k (issue_fault x k))
 called_so w number k at s new d told there apart did_is ended_is d_is new_is =
@@ -144,7 +144,7 @@ called_so w number k at s new d told there apart did_is ended_is d_is new_is =
     ∙ issued_so w at s k (issue_fault s k) there.at_place apart
     ∙ ap (λ o. with_found w o (λ x. call_judged w x k (issue_fault x k))) (sym there.found)
 
-pub polled_so : (w : World) (l : ℕ) (number : ClientNo) (at : ℕ) (s new : ClientState) (t : Turned) (out : List ℕ) → IsThere w number at s → AreApart (numbers_of w.clients)
+pub polled_so : (w : WorldState) (l : ℕ) (number : ClientNo) (at : ℕ) (s new : ClientState) (t : ClientTurn) (out : List ℕ) → IsThere w number at s → AreApart (numbers_of w.clients)
     → new ≡ handed_out (after_poll w.moment (poll s w.moment) s) → IsTurned s w.moment (poll s w.moment) t out
     → turned_step (record w { clients = set w.clients at new }) l number t out ≡ with_found w (client_in w.clients number) (λ x. polled w l x (poll x w.moment))
 polled_so w l number at s new t out there apart is told =
@@ -152,7 +152,7 @@ polled_so w l number at s new t out there apart is told =
     ∙ turned_so w l at s new (poll s w.moment) t out there.at_place apart is told
     ∙ ap (λ o. with_found w o (λ x. polled w l x (poll x w.moment))) (sym there.found)
 
-pub heard_so : (w : World) (k line : ℕ) (number : ClientNo) (at : ℕ) (s new : ClientState) (bytes : List ℕ) (note : Note) (t : Listened) → IsThere w number at s → AreApart (numbers_of w.clients)
+pub heard_so : (w : WorldState) (k line : ℕ) (number : ClientNo) (at : ℕ) (s new : ClientState) (bytes : List ℕ) (note : Note) (t : Listened) → IsThere w number at s → AreApart (numbers_of w.clients)
     → new ≡ state_heard s (heard_as s bytes) → IsListened s bytes note line (heard_as s bytes) t
     → listened_step (record w { clients = set w.clients at new }) k number t ≡ with_found w (client_in w.clients number) (λ x. client_heard w k line note x bytes (hearing x bytes))
 heard_so w k line number at s new bytes note t there apart is told =
@@ -162,15 +162,15 @@ heard_so w k line number at s new bytes note t there apart is told =
     ∙ ap (λ o. with_found w o (λ x. client_heard w k line note x bytes (hearing x bytes))) (sym there.found)
 
 -- ---- a live frame
-pub to_node : (w : World) (l k : ℕ) (note : Note) (bytes : List ℕ) (end : End) (line : ℕ) (n : Node) (s : Said) (out : List ℕ) → Some note ≡ note_on w.notes k
-    → Live bytes end line ≡ found_at w.moment (frame_at w.link k) → end ≡ to.Node
+pub to_node : (w : WorldState) (l k : ℕ) (note : Note) (bytes : List ℕ) (end : End) (line : ℕ) (n : NodeState) (s : FrameAnswer) (out : List ℕ) → Some note ≡ note_on w.notes k
+    → Live bytes end line ≡ found_at w.moment (frame_at w.link k) → end ≡ to.NodeState
     → n ≡ node_given latest w.node w.moment bytes → IsSaid bytes (node_answer latest w.node w.moment bytes) s out → said_step (record w { node = n }) l k note.part s out ≡ deliver w l k
 to_node w l k note bytes end line n s out noted found is_end is_node told =
     sym (node_so l k note.part w bytes n s out is_node told)
     ∙ ap (λ e. arrived w l k (Some note) bytes e line) (sym is_end)
     ∙ sym (live w l k note bytes end line (sym noted) (sym found))
 
-pub to_client : (w : World) (l k : ℕ) (note : Note) (bytes : List ℕ) (end : End) (line : ℕ) (number : ClientNo) (at : ℕ) (s new : ClientState) (t : Listened) → Some note ≡ note_on w.notes k
+pub to_client : (w : WorldState) (l k : ℕ) (note : Note) (bytes : List ℕ) (end : End) (line : ℕ) (number : ClientNo) (at : ℕ) (s new : ClientState) (t : Listened) → Some note ≡ note_on w.notes k
     → Live bytes end line ≡ found_at w.moment (frame_at w.link k) → end ≡ to.Client number → IsThere w number at s → AreApart (numbers_of w.clients)
     → new ≡ state_heard s (heard_as s bytes) → IsListened s bytes note line (heard_as s bytes) t → listened_step (record w { clients = set w.clients at new }) k number t ≡ deliver w l k
 to_client w l k note bytes end line number at s new t noted found is_end there apart is told =

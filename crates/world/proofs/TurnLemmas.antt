@@ -11,7 +11,7 @@ use Rattle.client_core.specs.Answers.{done_answer, frame_bytes, poll_answer, pol
 use Rattle.client_core.specs.declared.answers.Poll.TheVariants as poll
 use Rattle.client_model.specs.Client.{ClientState, Outgoing, Polled, GivesUp, EndsFence, Sends, Idles, Finished, after_done, after_poll, handed_out, head_of}
 use Rattle.frame_model.specs.Frames.{request_frame}
-use Rattle.world.specs.declared.turn.Turned.TheVariants as turned
+use Rattle.world.specs.declared.turn.ClientTurn.TheVariants as turned
 use Rattle.world.specs.Saying.{IsTurned}
 
 -- a poll leaves a client its number

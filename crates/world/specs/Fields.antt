@@ -3,15 +3,16 @@ use Rattle.std.specs.Prelude.{ℕ, ◌*◌, ◌≡◌, ◌≤◌, List, [], leng
 use Rattle.std.specs.List.{AllByRecursion as Each}
 use Rattle.cl_types.specs.declared.numbers.ClientNo.{ClientNo}
 use Rattle.client_model.specs.Client.{ClientState, new_client}
-use Rattle.node_model.specs.Nodes.{Node}
+use Rattle.node_model.specs.Nodes.{NodeState}
 use Rattle.trace.specs.Properties.{IsInOrder}
 use Rattle.client_model.specs.Apart.{AreApart}
 use Rattle.indexmap.specs.IndexMap.{IndexMap, keys, values}
 use Rattle.world.specs.declared.whole.Whole.{Whole}
-use Rattle.world.specs.Worlds.{World}
+use Rattle.world.specs.Worlds.{WorldState}
+use Rattle.cl_types.specs.declared.limits.TheConstants.{MOST_TICKS}
 
 -- the world of the fields
-abbrev pub world_of : Whole → World
+abbrev pub world_of : Whole → WorldState
 world_of w = record {
   moment = w.moment;
   node = w.node.node;
@@ -22,7 +23,7 @@ world_of w = record {
 }
 
 -- the world of a node and of new clients, in which nothing has happened
-abbrev pub world_around : Node → List (ClientNo × ℕ) → World
+abbrev pub world_around : NodeState → List (ClientNo × ℕ) → WorldState
 world_around node given = record {
   moment = 0;
   node = node;
@@ -47,8 +48,8 @@ pub record IsWithin (n t : ℕ) (s : ClientState) : Type 0 where
   pub handed_out : s.ended ≡ []
 
 -- what holds of a world after the event of line l
-pub record IsSound (l : ℕ) (w : World) : Type 0 where
-  pub moment : w.moment ≤ 1000000000 * l
+pub record IsSound (l : ℕ) (w : WorldState) : Type 0 where
+  pub moment : w.moment ≤ MOST_TICKS * l
   pub frames : length w.link.frames ≤ l
   -- each frame has its note
   pub notes : length w.notes ≡ length w.link.frames

@@ -17,7 +17,7 @@ use Rattle.trace_laws.specs.Times.{clock}
 use Rattle.world.specs.declared.note.Note.{Note}
 use Rattle.world.specs.Running.{Running}
 use Rattle.world.specs.Summed.{nothing_counted}
-use Rattle.world.specs.Worlds.{World, Stepped, step}
+use Rattle.world.specs.Worlds.{WorldState, Stepped, step}
 
 -- ---- when a world stands for events
 -- a frame of the account, as the link has it
@@ -37,7 +37,7 @@ HaveNotes (f ∷ frames) (note ∷ notes) = IsNoteOf f.load note × HaveNotes fr
 HaveNotes frames notes = ⊥
 
 -- the world is what is read off an account
-pub record IsReadOff (config : Config) (a : Account) (w : World) : Type 0 where
+pub record IsReadOff (config : Config) (a : Account) (w : WorldState) : Type 0 where
   pub moment : w.moment ≡ clock a
   pub node : w.node ≡ node_at config a
   pub clients : w.clients ≡ map (λ given. client_at config a given.0) config.clients
@@ -47,7 +47,7 @@ pub record IsReadOff (config : Config) (a : Account) (w : World) : Type 0 where
   pub history : w.history ≡ a.history
 
 -- the world in which nothing has happened
-abbrev pub new_world : Config → World
+abbrev pub new_world : Config → WorldState
 new_world config = record {
   moment = 0;
   node = opening_node config.node;
@@ -71,7 +71,7 @@ pub record StandsOn (config : Config) (events : List (ℕ × Event)) (l : ℕ) (
 -- a world that stands for events stands, after a step, for these and one more, and the step tells its line
 abbrev pub WorldsFollow : Type 0
 WorldsFollow =
-    (config : Config) (events : List (ℕ × Event)) (l : ℕ) (event : Event) (w : World)
+    (config : Config) (events : List (ℕ × Event)) (l : ℕ) (event : Event) (w : WorldState)
     → 1 ≤ config.node.retry → IsGood config (events ++ (l, event) ∷ []) → length events + 1 < 2 ^ 64
     → IsReadOff config (account_of_latest config events) w
     → StandsOn config events l event (step w l event)

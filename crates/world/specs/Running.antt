@@ -8,17 +8,18 @@ use Rattle.cl_types.specs.declared.schedule.Event.TheVariants as event
 use Rattle.client_model.specs.Apart.{AreApart}
 use Rattle.data_path.specs.Access.{IsPiece}
 use Rattle.world.specs.Summed.{summed}
-use Rattle.world.specs.Worlds.{World, Stepped}
+use Rattle.world.specs.Worlds.{WorldState, Stepped}
+use Rattle.cl_types.specs.declared.limits.TheConstants.{MOST_TICKS}
 
 -- a running world: the world, what its events came to, the line of the latest, and whether one has wanted memory and found none
 pub record Running : Type 0 where
-  pub world : World
+  pub world : WorldState
   pub summary : Summary
   pub line : ℕ
   pub spent : Bool
 
 -- what an event did, told in its line, and the world after it
-abbrev pub stepped : EventLine → World → Stepped
+abbrev pub stepped : EventLine → WorldState → Stepped
 stepped told w = record { did = told.did; ended = told.ended; world = w }
 
 -- the counts after a step more
@@ -29,8 +30,8 @@ summed_on s counts = summed s.did s.ended (length s.world.history) counts
 abbrev pub HaveNumbersApart : Config → Type 0
 HaveNumbersApart config = AreApart (map (λ given. given.0.0) config.clients)
 
--- time goes on by at most 1,000,000,000 ticks at once, and the bytes that are shown lie in one page
+-- time goes on by at most `MOST_TICKS` ticks at once, and the bytes that are shown lie in one page
 abbrev pub IsFair : Event → Type 0
-IsFair (event.Tick by) = by ≤ 1000000000
+IsFair (event.Tick by) = by ≤ MOST_TICKS
 IsFair (event.Peek pid addr len) = IsPiece addr len
 IsFair other = Unit {0}

@@ -5,7 +5,7 @@ use Rattle.cl_types.specs.declared.frame.Head.{Head}
 use Rattle.cl_types.specs.declared.frame.How.{How}
 use Rattle.cl_types.specs.declared.frame.How.TheVariants as how
 use Rattle.cl_types.specs.declared.frame.IssueFault.{IssueFault}
-use Rattle.cl_types.specs.declared.limits.TheConstants.{FRAME_ROOM}
+use Rattle.cl_types.specs.declared.limits.TheConstants.{FRAME_ROOM, REPLY_BYTES}
 use Rattle.cl_types.specs.declared.line.Did.{Did}
 use Rattle.cl_types.specs.declared.line.Did.TheVariants as did
 use Rattle.cl_types.specs.declared.line.Entry.{Entry}
@@ -17,7 +17,7 @@ use Rattle.trace.specs.Account.{with_entry}
 use Rattle.client_model.specs.Client.{ClientState, Polled, GivesUp, EndsFence, Sends, Idles, after_poll, after_reply, end_told, handed_out, head_of}
 use Rattle.frame_model.specs.Frames.{Item, head_in, kind_of, reply_fault, reply_frame, reply_in, request_frame, request_in, status_in}
 use Rattle.client_model.specs.Hearing.{Hearing, HearsBad, HearsOther, HearsLate, HearsUnfit, HearsReply}
-use Rattle.node_model.specs.Nodes.{Said as NodeSaid, Gives, IsBusy, NodeAnswer, Refuses, Says}
+use Rattle.node_model.specs.Nodes.{ItemAnswer as NodeSaid, Gives, IsBusy, NodeAnswer, Refuses, Says}
 use Rattle.link_sim.specs.Got.{Found, Live, Expired, Absent}
 use Rattle.node_core.specs.declared.outcome.Outcome.{Outcome}
 use Rattle.node_core.specs.declared.outcome.Outcome.TheVariants as outcome
@@ -25,13 +25,13 @@ use Rattle.world.specs.declared.note.Note.{Note}
 use Rattle.world.specs.declared.ask.Answered.{Answered}
 use Rattle.world.specs.declared.ask.Made.{Made}
 use Rattle.world.specs.declared.ask.Made.TheVariants as made
-use Rattle.world.specs.declared.ask.Said.{Said}
-use Rattle.world.specs.declared.ask.Said.TheVariants as said
+use Rattle.world.specs.declared.ask.FrameAnswer.{FrameAnswer}
+use Rattle.world.specs.declared.ask.FrameAnswer.TheVariants as said
 use Rattle.world.specs.declared.listen.Listened.{Listened}
 use Rattle.world.specs.declared.listen.Listened.TheVariants as listened
-use Rattle.world.specs.declared.turn.Turned.{Turned}
-use Rattle.world.specs.declared.turn.Turned.TheVariants as turned
-use Rattle.world.specs.Worlds.{World, Stepped, next_frame, sends_frame, shows}
+use Rattle.world.specs.declared.turn.ClientTurn.{ClientTurn}
+use Rattle.world.specs.declared.turn.ClientTurn.TheVariants as turned
+use Rattle.world.specs.Worlds.{WorldState, Stepped, next_frame, sends_frame, shows}
 
 -- ---- what only shows
 -- the bytes of frame k, by what stands under its number at moment 0, when no frame is old
@@ -48,7 +48,7 @@ issue_did s None = did.Issued s.client (record { 0 = s.issued + 1 })
 
 -- ---- a poll
 -- what a poll at moment t did is told so, the frame that it sends at the start of the buffer
-abbrev pub IsTurned : ClientState → ℕ → Polled → Turned → List ℕ → Type 0
+abbrev pub IsTurned : ClientState → ℕ → Polled → ClientTurn → List ℕ → Type 0
 IsTurned s t (GivesUp f) (turned.Quiet line) out =
     (line.did ≡ did.GaveUp s.client f.part) × (line.ended ≡ end_told s.client (after_poll t (GivesUp f) s).ended)
 IsTurned s t (EndsFence n) (turned.Quiet line) out =
@@ -61,12 +61,12 @@ IsTurned s t Idles (turned.Quiet line) out = (line.did ≡ did.Idle) × (line.en
 IsTurned s t polled told out = ⊥
 
 -- a frame that is sent is short enough for the buffer
-abbrev pub IsShortTurn : Turned → Type 0
+abbrev pub IsShortTurn : ClientTurn → Type 0
 IsShortTurn (turned.Sends len part id orig again) = len ≤ FRAME_ROOM
 IsShortTurn other = Unit {0}
 
 -- the step of a poll that told this, in the world in which the client stands as it does after it
-abbrev pub turned_step : World → ℕ → ClientNo → Turned → List ℕ → Stepped
+abbrev pub turned_step : WorldState → ℕ → ClientNo → ClientTurn → List ℕ → Stepped
 turned_step w l c (turned.Quiet line) out = record { did = line.did; ended = line.ended; world = w }
 turned_step w l c (turned.Sends len part id orig again) out =
     shows (sends_frame w l to.Node (take len out) (record { part = part; looked = None }))
@@ -105,7 +105,7 @@ entered_in (made.Executed request reply) l head part h =
 entered_in other l head part h = h
 
 -- what the node said to the item is told so, the reply's frame at the start of the buffer
-abbrev pub IsSaidTo : Item → NodeSaid → Said → List ℕ → Type 0
+abbrev pub IsSaidTo : Item → NodeSaid → FrameAnswer → List ℕ → Type 0
 IsSaidTo item (IsBusy oldest at) (said.Busy client since now) out = (client ≡ item.head.client) × (since ≡ oldest) × (now ≡ at)
 IsSaidTo item (Gives how reply) (said.Answers a) out =
     (a.head ≡ item.head) × (a.made ≡ made_in how item.request reply) × (a.status ≡ status_in reply)
@@ -114,7 +114,7 @@ IsSaidTo item (Gives how reply) (said.Answers a) out =
 IsSaidTo item x told out = ⊥
 
 -- what the node answered to the bytes is told so
-abbrev pub IsSaid : List ℕ → NodeAnswer → Said → List ℕ → Type 0
+abbrev pub IsSaid : List ℕ → NodeAnswer → FrameAnswer → List ℕ → Type 0
 IsSaid bytes (Refuses fault) (said.Bad told) out = told ≡ fault
 IsSaid bytes (Says (x ∷ [])) told out = IsSaidTo (record { head = head_in bytes; request = request_in bytes }) x told out
 -- nothing else is told
@@ -122,12 +122,12 @@ IsSaid bytes answer told out = ⊥
 
 -- a reply's frame is short enough for the buffer
 abbrev pub IsShort : Outcome → Type 0
-IsShort (outcome.Replied len how status) = len ≤ 1051
+IsShort (outcome.Replied len how status) = len ≤ REPLY_BYTES
 IsShort other = Unit {0}
 
 -- the same of what the node said
-abbrev pub IsShortSaid : Said → Type 0
-IsShortSaid (said.Answers a) = a.len ≤ 1051
+abbrev pub IsShortSaid : FrameAnswer → Type 0
+IsShortSaid (said.Answers a) = a.len ≤ REPLY_BYTES
 IsShortSaid other = Unit {0}
 
 -- the reply to an execution can be read in its frame
@@ -136,16 +136,16 @@ IsReadable (outcome.Replied len how.Executed status) out = reply_fault (take len
 IsReadable other out = Unit {0}
 
 -- the step of an answer of the node
-abbrev pub answered_step : World → (l k : ℕ) → Part → Answered → List ℕ → Stepped
+abbrev pub answered_step : WorldState → (l k : ℕ) → Part → Answered → List ℕ → Stepped
 answered_step w l k part a out =
-    let after : World = record w { history = entered_in a.made l a.head part w.history } in
+    let after : WorldState = record w { history = entered_in a.made l a.head part w.history } in
     let note : Note = record { part = part; looked = looked_in a.made } in
     shows
     (sends_frame after l (to.Client a.head.client) (take a.len out) note)
     (did.Handled k a.head.client part (how_in a.made) a.status (next_frame w))
 
 -- the step of what the node said to frame k, in the world with the node after it
-abbrev pub said_step : World → (l k : ℕ) → Part → Said → List ℕ → Stepped
+abbrev pub said_step : WorldState → (l k : ℕ) → Part → FrameAnswer → List ℕ → Stepped
 said_step w l k part (said.Bad fault) out = shows w (did.Bad fault)
 said_step w l k part (said.Busy client oldest at) out = shows w (did.Busy k client part oldest at)
 said_step w l k part (said.Answers a) out = answered_step w l k part a out
@@ -186,7 +186,7 @@ IsListened s bytes note line (HearsReply f reply) (listened.Took t) =
 IsListened s bytes note line heard told = ⊥
 
 -- the step of what a client heard in frame k, in the world in which it stands as it does after it
-abbrev pub listened_step : World → (k : ℕ) → ClientNo → Listened → Stepped
+abbrev pub listened_step : WorldState → (k : ℕ) → ClientNo → Listened → Stepped
 listened_step w k c (listened.Bad fault) = shows w (did.Bad fault)
 listened_step w k c listened.Other = shows w did.Idle
 listened_step w k c (listened.Late orig) = shows w (did.Late k orig)

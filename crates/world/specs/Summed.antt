@@ -6,6 +6,7 @@ use Rattle.cl_types.specs.declared.line.EndedCall.{EndedCall}
 use Rattle.cl_types.specs.declared.line.Summary.{Summary}
 use Rattle.cl_types.specs.declared.reply.Answer.{Answer}
 use Rattle.cl_types.specs.declared.reply.Answer.TheVariants as answer
+use Rattle.cl_types.specs.declared.limits.TheConstants.{LINES_END}
 
 -- what no events came to
 abbrev pub nothing_counted : Summary
@@ -46,5 +47,5 @@ pub record IsWithinLine (line : ℕ) (s : Summary) : Type 0 where
 
 -- one more of each can be counted
 pub record HasRoom (s : Summary) : Type 0 where
-  pub issued : s.issued < 2 ^ 29
-  pub ended : ended_count s < 2 ^ 29
+  pub issued : s.issued < LINES_END
+  pub ended : ended_count s < LINES_END

@@ -30,16 +30,16 @@ use Rattle.frame_model.specs.Frames.{Item, head_in, kind_of, reply_fault, reply_
 use Rattle.node_model.specs.Handling.{latest}
 use Rattle.client_model.specs.Hearing.{Hearing, HearsBad, HearsOther, HearsLate, HearsUnfit, HearsReply, hearing}
 use Rattle.client_model.specs.Issue.{issue_fault}
-use Rattle.node_model.specs.Nodes.{Node, NodeStep, Said, Gives, IsBusy, step_item}
+use Rattle.node_model.specs.Nodes.{NodeState, NodeStep, ItemAnswer, Gives, IsBusy, step_item}
 use Rattle.cl_types.specs.Pages.{offset_of, page_of}
 use Rattle.flat_model.specs.State.{Page, bytes_of, page_at, used}
 use Rattle.world.specs.declared.note.Note.{Note}
 
 -- ---- what a world is
 -- a world: the moment, its node and clients, the frames that were sent with a note on each, and the history
-pub record World : Type 0 where
+pub record WorldState : Type 0 where
   pub moment : ℕ
-  pub node : Node
+  pub node : NodeState
   -- in the order of the configuration
   pub clients : List ClientState
   pub link : LinkFrames
@@ -60,18 +60,18 @@ with_client new clients = map (λ s. if same_client new.client s.client then new
 pub record Stepped : Type 0 where
   pub did : Did
   pub ended : Option EndedCall
-  pub world : World
+  pub world : WorldState
 
 -- it did this, and no call ended
-abbrev pub shows : World → Did → Stepped
+abbrev pub shows : WorldState → Did → Stepped
 shows w text = record { did = text; ended = None; world = w }
 
 -- the world in which a client stands so, and nothing waits to be handed out
-abbrev pub client_stands : World → ClientState → World
+abbrev pub client_stands : WorldState → ClientState → WorldState
 client_stands w s = record w { clients = with_client (handed_out s) w.clients }
 
 -- the world in which a frame was sent now on line l, with its note
-abbrev pub sends_frame : World → ℕ → End → List ℕ → Note → World
+abbrev pub sends_frame : WorldState → ℕ → End → List ℕ → Note → WorldState
 sends_frame w l end bytes note =
     record w {
       link = sent_on w.link (record { moment = w.moment; end = end; bytes = bytes; line = l });
@@ -79,24 +79,24 @@ sends_frame w l end bytes note =
     }
 
 -- the number of the frame that is sent next
-abbrev pub next_frame : World → ℕ
+abbrev pub next_frame : WorldState → ℕ
 next_frame w = length w.link.frames + 1
 
 -- goes on with the client of this number; no event names another
-abbrev pub with_found : World → Option ClientState → (ClientState → Stepped) → Stepped
+abbrev pub with_found : WorldState → Option ClientState → (ClientState → Stepped) → Stepped
 with_found w None go = shows w did.Idle
 with_found w (Some s) go = go s
 
 -- ---- a call and a poll
 -- a call was judged: it is issued where there is no fault
-abbrev pub call_judged : World → ClientState → Call → Option IssueFault → Stepped
+abbrev pub call_judged : WorldState → ClientState → Call → Option IssueFault → Stepped
 call_judged w s k (Some fault) = shows w (did.NotIssued fault)
 call_judged w s k None =
     shows (record w { clients = with_client (after_issue k s) w.clients })
     (did.Issued s.client (record { 0 = s.issued + 1 }))
 
 -- a poll of a client did this
-abbrev pub polled : World → ℕ → ClientState → Polled → Stepped
+abbrev pub polled : WorldState → ℕ → ClientState → Polled → Stepped
 polled w l s (GivesUp f) =
     let after : ClientState = after_poll w.moment (GivesUp f) s in
     record { did = did.GaveUp s.client f.part; ended = end_told s.client after.ended; world = client_stands w after }
@@ -104,9 +104,9 @@ polled w l s (EndsFence n) =
     let after : ClientState = after_poll w.moment (EndsFence n) s in
     record { did = did.FenceEnded; ended = end_told s.client after.ended; world = client_stands w after }
 polled w l s (Sends (o ∷ items)) =
-    let after : World = client_stands w (after_poll w.moment (Sends (o ∷ items)) s) in
+    let after : WorldState = client_stands w (after_poll w.moment (Sends (o ∷ items)) s) in
     let bytes : List ℕ = request_frame (head_of s.client s.pid o) o.request in
-    shows (sends_frame after l to.Node bytes (record { part = o.part; looked = None })) (sent_text s.client (next_frame w) o)
+    shows (sends_frame after l to.NodeState bytes (record { part = o.part; looked = None })) (sent_text s.client (next_frame w) o)
 polled w l s other = shows (client_stands w (after_poll w.moment other s)) did.Idle
 
 -- ---- a frame at the node
@@ -133,21 +133,21 @@ entered Executed e h = with_entry e h
 entered other e h = h
 
 -- the node said this to the item of frame k, which carries this part
-abbrev pub node_said : World → (l k : ℕ) → Part → Item → Said → Stepped
+abbrev pub node_said : WorldState → (l k : ℕ) → Part → Item → ItemAnswer → Stepped
 node_said w l k part i (IsBusy oldest at) = shows w (did.Busy k i.head.client part oldest at)
 node_said w l k part i (Gives how reply) =
-    let after : World = record w { history = entered how (entry_of l part i reply) w.history } in
+    let after : WorldState = record w { history = entered how (entry_of l part i reply) w.history } in
     let bytes : List ℕ = reply_frame i.head (kind_of i.request) reply in
     shows
     (sends_frame after l (to.Client i.head.client) bytes (record { part = part; looked = looked_by how i.request }))
     (did.Handled k i.head.client part how (status_in reply) (next_frame w))
 
 -- the node's step on the item of frame k
-abbrev pub node_stepped : World → (l k : ℕ) → Part → Item → NodeStep → Stepped
+abbrev pub node_stepped : WorldState → (l k : ℕ) → Part → Item → NodeStep → Stepped
 node_stepped w l k part i step = node_said (record w { node = step.node }) l k part i step.said
 
 -- the node was handed bytes: their fault, or the step on the item that they spell
-abbrev pub node_judged : World → (l k : ℕ) → Part → List ℕ → Option BadFrame → Stepped
+abbrev pub node_judged : WorldState → (l k : ℕ) → Part → List ℕ → Option BadFrame → Stepped
 node_judged w l k part bytes (Some fault) = shows w (did.Bad fault)
 node_judged w l k part bytes None =
     let i : Item = record { head = head_in bytes; request = request_in bytes } in
@@ -169,7 +169,7 @@ taken_entry line bytes part (Some r) h =
     }) h
 
 -- a client heard the bytes of frame k so
-abbrev pub client_heard : World → ℕ → ℕ → Note → ClientState → List ℕ → Hearing → Stepped
+abbrev pub client_heard : WorldState → ℕ → ℕ → Note → ClientState → List ℕ → Hearing → Stepped
 client_heard w k line note s bytes (HearsReply f reply) =
     let after : ClientState = after_reply f.part reply s in
     record {
@@ -184,14 +184,14 @@ client_heard w k line note s bytes (HearsBad fault) = shows w (did.Bad fault)
 
 -- ---- a delivery
 -- a live frame came to its end, with its note
-abbrev pub arrived : World → (l k : ℕ) → Option Note → List ℕ → End → ℕ → Stepped
+abbrev pub arrived : WorldState → (l k : ℕ) → Option Note → List ℕ → End → ℕ → Stepped
 arrived w l k None bytes end line = shows w (did.Absent k)
-arrived w l k (Some note) bytes to.Node line = node_judged w l k note.part bytes (request_fault bytes)
+arrived w l k (Some note) bytes to.NodeState line = node_judged w l k note.part bytes (request_fault bytes)
 arrived w l k (Some note) bytes (to.Client c) line =
     with_found w (client_in w.clients c) (λ s. client_heard w k line note s bytes (hearing s bytes))
 
 -- what stands under the number k
-abbrev pub delivered : World → (l k : ℕ) → Option Note → Found → Stepped
+abbrev pub delivered : WorldState → (l k : ℕ) → Option Note → Found → Stepped
 delivered w l k on_it (Live bytes end line) = arrived w l k on_it bytes end line
 delivered w l k on_it (Expired sent) = shows w (did.Expired k sent)
 delivered w l k on_it Absent = shows w (did.Absent k)
@@ -202,17 +202,17 @@ note_on notes zero = None
 note_on notes (suc k) = slice_get notes k
 
 -- frame k is handed to its end
-abbrev pub deliver : World → (l k : ℕ) → Stepped
+abbrev pub deliver : WorldState → (l k : ℕ) → Stepped
 deliver w l k = delivered w l k (note_on w.notes k) (found_at w.moment (frame_at w.link k))
 
 -- goes on with the next frame, which is handed out
-abbrev pub with_next : World → (World → ℕ → Stepped) → Option ℕ → Stepped
+abbrev pub with_next : WorldState → (WorldState → ℕ → Stepped) → Option ℕ → Stepped
 with_next w go None = shows w did.NoFrame
 with_next w go (Some k) = go (record w { link = next_handed w.link }) k
 
 -- ---- what only shows
 -- time goes on by so many ticks
-abbrev pub ticked : World → ℕ → Stepped
+abbrev pub ticked : WorldState → ℕ → Stepped
 ticked w by = shows (record w { moment = w.moment + by }) (did.Now (w.moment + by))
 
 -- a page's bytes from the address on, whatever its permission
@@ -232,7 +232,7 @@ garbage None = did.Idle
 
 -- ---- an event
 -- what an event on line l does
-abbrev pub step : World → ℕ → Event → Stepped
+abbrev pub step : WorldState → ℕ → Event → Stepped
 step w l (event.Call client text) =
     with_found w (client_in w.clients client) (λ s. call_judged w s (call_of text) (issue_fault s (call_of text)))
 step w l (event.Poll client) = with_found w (client_in w.clients client) (λ s. polled w l s (poll s w.moment))

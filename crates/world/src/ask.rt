@@ -4,7 +4,7 @@ ghost use Rattle.std.specs.Prelude.{◌≡◌, ◌<◌, ◌≤◌, None, IfOk, l
 ghost use Rattle.cl_types.specs.Requests.{request_of};
 ghost use Rattle.frame_model.specs.Frames.{IsHead, head_in, reply_fault, reply_in, request_in};
 ghost use Rattle.node_model.specs.Handling.{latest};
-ghost use Rattle.node_model.specs.Nodes.{Said as NodeSaid, node_answer, node_given};
+ghost use Rattle.node_model.specs.Nodes.{ItemAnswer as NodeSaid, node_answer, node_given};
 ghost use Rattle.node_core.specs.Keeping.{Tells, TellsSaid, item_of};
 ghost use Rattle.world.specs.Saying.{IsReadable, IsSaid, IsSaidTo, IsShort, IsShortSaid, made_in};
 
@@ -44,7 +44,7 @@ pub struct Answered {
 
 /// What the node said.
 #[derive(Drop)]
-pub enum Said {
+pub enum FrameAnswer {
     /// The bytes spell no request.
     Bad(BadFrame),
     /// The node has as many records as it may keep, and the oldest is young.
@@ -64,7 +64,7 @@ pub fn ask(
     now: u64,
     frame: &[u8],
     out: &mut [u8],
-) -> Result<Said, NoMemory>
+) -> Result<FrameAnswer, NoMemory>
     requires later { node.old.last ≤ now }
     requires room { length out.old ≡ FRAME_ROOM }
     ensures node { node.new ≡ record {
@@ -78,7 +78,7 @@ pub fn ask(
 {
     let outcome = step(node, now, frame, out);
     match read_request(frame) {
-        Err(fault) => Ok(Said::Bad(fault)),
+        Err(fault) => Ok(FrameAnswer::Bad(fault)),
         Ok(view) => said_of(alloc, &view, outcome, out),
     }
 }
@@ -132,7 +132,7 @@ fn said_of(
     view: &RequestView,
     outcome: Outcome,
     out: &[u8],
-) -> Result<Said, NoMemory>
+) -> Result<FrameAnswer, NoMemory>
     requires head { IsHead view.now.head }
     requires room { length out.now ≡ FRAME_ROOM }
     requires short { IsShort outcome }
@@ -143,15 +143,15 @@ fn said_of(
     ensures short { IfOk result IsShortSaid }
 {
     match outcome {
-        Outcome::Bad(fault) => Ok(Said::Bad(fault)),
-        Outcome::Busy { oldest, now } => Ok(Said::Busy {
+        Outcome::Bad(fault) => Ok(FrameAnswer::Bad(fault)),
+        Outcome::Busy { oldest, now } => Ok(FrameAnswer::Busy {
             client: view.head.client,
             oldest,
             now,
         }),
         Outcome::Replied { len, how, status } => {
             let made = made_of(alloc, how, &view.body, &out[..len])?;
-            Ok(Said::Answers(Answered {
+            Ok(FrameAnswer::Answers(Answered {
                 head: view.head,
                 made,
                 status,

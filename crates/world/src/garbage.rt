@@ -7,7 +7,7 @@ ghost use Rattle.world.specs.Fields.{AreKeyed, world_of};
 ghost use Rattle.world.specs.Running.{stepped};
 ghost use Rattle.world.specs.Worlds.{garbage, shows};
 
-use crate::ask::{Said, ask};
+use crate::ask::{FrameAnswer, ask};
 use crate::copies::expand;
 use crate::whole::{Whole, alone, client_at};
 use cl_types::items::NoMemory;
@@ -86,7 +86,7 @@ fn node_refuses(
     match read_request(bytes) {
         Ok(_) => Ok(Did::Idle),
         Err(_) => {
-            let Said::Bad(fault) = ask(alloc, node, now, bytes, out)? else {
+            let FrameAnswer::Bad(fault) = ask(alloc, node, now, bytes, out)? else {
                 unreachable!()
             };
             Ok(Did::Bad { fault })

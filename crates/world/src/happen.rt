@@ -4,6 +4,7 @@ ghost use Rattle.std.specs.Prelude.{◌≡◌, ◌<◌, ◌≤◌, ◌^◌, ◌-
 ghost use Rattle.world.specs.Fields.{AreKeyed, AreSound, IsReady, world_of};
 ghost use Rattle.world.specs.Running.{IsFair, stepped};
 ghost use Rattle.world.specs.Worlds.{step};
+ghost use Rattle.cl_types.specs.declared.limits.TheConstants.{LINES_END};
 
 use crate::whole::{Whole, alone};
 use cl_types::items::NoMemory;
@@ -15,7 +16,7 @@ impl Whole {
     /// Makes an event happen on a line.
     pub fn happen(&mut self, alloc: Global, line: u32, event: &Event) -> Result<EventLine, NoMemory>
         requires some { 0 < line }
-        requires few { line < 2 ^ 29 }
+        requires few { line < LINES_END }
         requires sound { AreSound (line - 1) self.old }
         requires keyed { AreKeyed self.old.clients }
         requires fair { IsFair event.now }

@@ -10,13 +10,14 @@ ghost use Rattle.world.specs.Fields.{AreKeyed, IsReady, world_of};
 ghost use Rattle.world.specs.Running.{stepped};
 ghost use Rattle.world.specs.Saying.{IsShortSaid, IsShortTurn, answered_step, how_in, listened_step, said_step, turned_step};
 ghost use Rattle.world.specs.Worlds.{call_judged, client_in, deliver as deliver_in, polled, shows, with_found, with_next};
+ghost use Rattle.cl_types.specs.declared.limits.TheConstants.{REPLY_BYTES};
 
-use crate::ask::{Answered, Made, Said, ask};
+use crate::ask::{Answered, FrameAnswer, Made, ask};
 use crate::history::{enter, enter_look};
 use crate::issue::issue;
 use crate::listen::{Listened, Taken, listen};
 use crate::note::Note;
-use crate::turn::{Turned, turn};
+use crate::turn::{ClientTurn, turn};
 use crate::whole::{Whole, alone, client_at, note_at};
 use cl_types::frame::{End, How};
 use cl_types::items::NoMemory;
@@ -71,7 +72,7 @@ impl Whole {
     }
 
     /// Sends what a poll is to send, and tells the poll.
-    fn turned(&mut self, line: u32, no: ClientNo, turned: Turned) -> Result<EventLine, NoMemory>
+    fn turned(&mut self, line: u32, no: ClientNo, turned: ClientTurn) -> Result<EventLine, NoMemory>
         requires few { length self.old.link.frames < 4294967295 }
         requires short { IsShortTurn turned }
         ensures step { IfOk result (λ told. stepped told (world_of self.new)
@@ -81,8 +82,8 @@ impl Whole {
         ensures clients { self.new.clients ≡ self.old.clients }
     {
         match turned {
-            Turned::Quiet(told) => Ok(told),
-            Turned::Sends {
+            ClientTurn::Quiet(told) => Ok(told),
+            ClientTurn::Sends {
                 len,
                 part,
                 id,
@@ -166,7 +167,13 @@ impl Whole {
     }
 
     /// Tells what the node said to a frame, and sends its reply.
-    fn said(&mut self, line: u32, frame: u32, part: Part, said: Said) -> Result<EventLine, NoMemory>
+    fn said(
+        &mut self,
+        line: u32,
+        frame: u32,
+        part: Part,
+        said: FrameAnswer,
+    ) -> Result<EventLine, NoMemory>
         requires few { length self.old.link.frames < 4294967295 }
         requires short { IsShortSaid said }
         requires order { IsInOrder self.old.history.items }
@@ -177,8 +184,8 @@ impl Whole {
         ensures clients { self.new.clients ≡ self.old.clients }
     {
         match said {
-            Said::Bad(fault) => Ok(alone(Did::Bad { fault })),
-            Said::Busy {
+            FrameAnswer::Bad(fault) => Ok(alone(Did::Bad { fault })),
+            FrameAnswer::Busy {
                 client,
                 oldest,
                 now,
@@ -189,7 +196,7 @@ impl Whole {
                 oldest,
                 now,
             })),
-            Said::Answers(answered) => self.answered(line, frame, part, answered),
+            FrameAnswer::Answers(answered) => self.answered(line, frame, part, answered),
         }
     }
 
@@ -202,7 +209,7 @@ impl Whole {
         answered: Answered,
     ) -> Result<EventLine, NoMemory>
         requires few { length self.old.link.frames < 4294967295 }
-        requires short { answered.len ≤ 1051 }
+        requires short { answered.len ≤ REPLY_BYTES }
         requires order { IsInOrder self.old.history.items }
         ensures step { IfOk result (λ told. stepped told (world_of self.new)
             ≡ answered_step (world_of self.old) line frame part answered self.old.out) }

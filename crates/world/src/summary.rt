@@ -2,6 +2,7 @@
 
 ghost use Rattle.std.specs.Prelude.{◌≡◌, ◌+◌, ◌-◌, ◌<◌, ◌^◌};
 ghost use Rattle.world.specs.Summed.{HasRoom, ended_count, summed, with_answer, with_did, with_ended, with_unended};
+ghost use Rattle.cl_types.specs.declared.limits.TheConstants.{LINES_END};
 
 use cl_types::line::{Did, EndedCall, EventLine, Summary};
 use cl_types::reply::Answer;
@@ -18,7 +19,7 @@ pub const NOTHING_COUNTED: Summary = Summary {
 
 /// The counts with a call more, where the line tells that one was issued.
 fn with_did(summary: Summary, did: &Did) -> Summary
-    requires { summary.issued < 2 ^ 29 }
+    requires { summary.issued < LINES_END }
     ensures { result ≡ with_did did.now summary }
 {
     match did {
@@ -32,7 +33,7 @@ fn with_did(summary: Summary, did: &Did) -> Summary
 
 /// The counts with an answer more.
 fn with_answer(summary: Summary, answer: Answer) -> Summary
-    requires { ended_count summary < 2 ^ 29 }
+    requires { ended_count summary < LINES_END }
     ensures { result ≡ with_answer answer summary }
 {
     match answer {
@@ -53,7 +54,7 @@ fn with_answer(summary: Summary, answer: Answer) -> Summary
 
 /// The counts with the answer of the call that ended, where one did.
 fn with_ended(summary: Summary, ended: &Option<EndedCall>) -> Summary
-    requires { ended_count summary < 2 ^ 29 }
+    requires { ended_count summary < LINES_END }
     ensures { result ≡ with_ended ended.now summary }
 {
     match ended {

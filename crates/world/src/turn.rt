@@ -17,7 +17,7 @@ use std::alloc::Global;
 
 /// What a poll did.
 #[derive(Drop)]
-pub enum Turned {
+pub enum ClientTurn {
     /// Nothing is sent.
     Quiet(EventLine),
     /// The first `len` bytes of the buffer are sent, which carry this part.
@@ -37,7 +37,7 @@ pub fn turn(
     client: &mut Client,
     now: u64,
     out: &mut [u8],
-) -> Result<Turned, NoMemory>
+) -> Result<ClientTurn, NoMemory>
     requires moment { client.old.last ≤ now }
     requires handed_out { client.old.ended ≡ [] }
     requires room { length out.old ≡ FRAME_ROOM }
@@ -56,7 +56,7 @@ pub fn turn(
             id,
             orig,
             again,
-        } => Ok(Turned::Sends {
+        } => Ok(ClientTurn::Sends {
             len,
             part,
             id,
@@ -65,13 +65,13 @@ pub fn turn(
         }),
         Poll::GaveUp(part) => ends(alloc, client, Did::GaveUp { client: no, part }),
         Poll::Ended(_) => ends(alloc, client, Did::FenceEnded),
-        Poll::Idle => Ok(Turned::Quiet(alone(Did::Idle))),
+        Poll::Idle => Ok(ClientTurn::Quiet(alone(Did::Idle))),
     }
 }
 
 /// Tells what was done, and the call that ended by it.
-fn ends(alloc: Global, client: &mut Client, did: Did) -> Result<Turned, NoMemory>
-    ensures turned { IfOk result (λ t. t ≡ Turned.Quiet (record {
+fn ends(alloc: Global, client: &mut Client, did: Did) -> Result<ClientTurn, NoMemory>
+    ensures turned { IfOk result (λ t. t ≡ ClientTurn.Quiet (record {
       did = did;
       ended = end_told client.old.client client.old.ended;
     })) }
@@ -79,7 +79,7 @@ fn ends(alloc: Global, client: &mut Client, did: Did) -> Result<Turned, NoMemory
     ensures number { client.new.client ≡ client.old.client }
 {
     let ended = hand_out(alloc, client)?;
-    Ok(Turned::Quiet(EventLine { did, ended }))
+    Ok(ClientTurn::Quiet(EventLine { did, ended }))
 }
 
 /// Hands out all calls that have ended, and tells the first. That no more than one ends by an event

@@ -10,6 +10,7 @@ ghost use Rattle.world.specs.Fields.{IsReady};
 ghost use Rattle.world.specs.Follows.{StandsFor, TellsLine, opened};
 ghost use Rattle.world.specs.Running.{HaveNumbersApart, IsFair, stepped, summed_on};
 ghost use Rattle.world.specs.Worlds.{client_in, step};
+ghost use Rattle.cl_types.specs.declared.limits.TheConstants.{LINES_END};
 
 use crate::summary::{NOTHING_COUNTED, summed};
 use crate::whole::Whole;
@@ -80,7 +81,7 @@ impl World {
     /// no memory for it, the world is spent: every later event is answered so too.
     pub fn event(&mut self, alloc: Global, line: u32, event: &Event) -> Result<EventLine, NoMemory>
         requires later { self.old.line < line }
-        requires few { line < 2 ^ 29 }
+        requires few { line < LINES_END }
         requires fair { IsFair event.now }
         ensures step { IfOk result (λ told. stepped told self.new.world
             ≡ step self.old.world line event.now) }

@@ -5,8 +5,9 @@ ghost use Rattle.cl_types.specs.Bytes.{with_bytes};
 ghost use Rattle.client_retry.specs.declared.due.Due.TheVariants as due;
 ghost use Rattle.client_model.specs.Client.{Polled, Idles, after_poll, fence_first, has_room_in_flight, poll as poll_of, sendable, to_give_up, to_send, to_send_again};
 ghost use Rattle.client_core.specs.Answers.{poll_answer, poll_bytes};
-ghost use Rattle.client_core.specs.Polls.{Does, Turned, due_in};
+ghost use Rattle.client_core.specs.Polls.{Does, IsPolled, due_in};
 ghost use Rattle.client_core.specs.Valid.{IsValid};
+ghost use Rattle.cl_types.specs.declared.limits.TheConstants.{FRAME_ROOM};
 
 use super::Client;
 use crate::answers::Poll;
@@ -21,7 +22,7 @@ impl Client {
     /// the start of `out`; the rest of `out` stays, and all of it where nothing is sent.
     pub fn poll(&mut self, now: u64, out: &mut [u8]) -> Poll
         requires moment { self.old.last ≤ now }
-        requires room { 1200 ≤ length out.old }
+        requires room { FRAME_ROOM ≤ length out.old }
         ensures answer { result ≡ poll_answer self.old (poll_of self.old now) }
         ensures bytes { out.new ≡ with_bytes 0 (poll_bytes self.old (poll_of self.old now)) out.old }
         ensures state { self.new ≡ after_poll now (poll_of self.old now) self.old }
@@ -33,8 +34,8 @@ impl Client {
 
     /// Does the first thing that is due at the latest moment.
     fn turn(&mut self, out: &mut [u8]) -> Poll
-        requires room { 1200 ≤ length out.old }
-        ensures turned { Turned self.old self.new result out.old out.new }
+        requires room { FRAME_ROOM ≤ length out.old }
+        ensures turned { IsPolled self.old self.new result out.old out.new }
         ensures valid { IsValid self.new }
     {
         let due = self.flight.due(self.last);
@@ -82,7 +83,7 @@ impl Client {
     /// Sends the first part that is due again, under a new id.
     fn send_again(&mut self, part: Part, orig: u64, out: &mut [u8]) -> Poll
         requires due { due_in self.old ≡ due.Resend part orig }
-        requires room { 1200 ≤ length out.old }
+        requires room { FRAME_ROOM ≤ length out.old }
         ensures does { (p : Polled) → to_send_again self.old self.old.last ≡ Some p
             → Does p self.old self.new result out.old out.new }
         ensures valid { IsValid self.new }
@@ -108,7 +109,7 @@ impl Client {
 
     /// Sends the first unsent part of a ready call, where there is room in flight.
     fn send_next(&mut self, out: &mut [u8]) -> Poll
-        requires room { 1200 ≤ length out.old }
+        requires room { FRAME_ROOM ≤ length out.old }
         ensures does { Does (unwrap_or (to_send self.old) Idles) self.old self.new result out.old out.new }
         ensures valid { IsValid self.new }
     {
@@ -125,7 +126,7 @@ impl Client {
     /// Sends the first part that may be sent, for the first time.
     fn send(&mut self, part: Part, out: &mut [u8]) -> Poll
         requires next { option_map (λ p. p.part) (slice_get (sendable self.old) 0) ≡ Some part }
-        requires room { 1200 ≤ length out.old }
+        requires room { FRAME_ROOM ≤ length out.old }
         requires space { has_room_in_flight self.old ≡ true }
         ensures does { (p : Polled) → to_send self.old ≡ Some p
             → Does p self.old self.new result out.old out.new }

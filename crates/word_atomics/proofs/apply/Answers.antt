@@ -5,7 +5,7 @@ use Rattle.cl_types.specs.Bytes.{with_bytes}
 use Rattle.cl_types.specs.declared.reply.Reply.TheVariants.{Word}
 use Rattle.cl_types.specs.Pages.{page_of, offset_of, word_after, word_at}
 use Rattle.flat_model.specs.State.{FlatState, Page, bytes_of}
-use Rattle.flat_model.specs.Step.{Outcome, puts, written}
+use Rattle.flat_model.specs.Step.{Transition, puts, written}
 use Rattle.data_path.specs.Store.{memory_of}
 use Rattle.data_path.proofs.Framing.{frame_open, changed_open_at}
 use Rattle.word_atomics.proofs.Atomics.{changes}
@@ -14,11 +14,11 @@ use Rattle.word_atomics.proofs.apply.Goals as goal
 pub returns-in_err-frame-clause-reply : goal.returns-in_err-frame-clause-reply
 returns-in_err-frame-clause-reply g c =
     let exit = err_from_is_err_and c.from_residual.result c.from_residual.ensures.1 in
-    rw (exit.1, exit.2) (sym (ap (λ (o : Outcome). o.reply) (c.in_err-frame.ensures.refused (changes (memory_of c.args.store.now) c.args.space.0 c.args.addr c.args.op))))
+    rw (exit.1, exit.2) (sym (ap (λ (o : Transition). o.reply) (c.in_err-frame.ensures.refused (changes (memory_of c.args.store.now) c.args.space.0 c.args.addr c.args.op))))
 
 pub returns-in_err-frame-clause-memory : goal.returns-in_err-frame-clause-memory
 returns-in_err-frame-clause-memory g c =
-    c.in_err-frame.ensures.unchanged ∙ sym (ap (λ (o : Outcome). o.state) (c.in_err-frame.ensures.refused (changes (memory_of c.args.store.now) c.args.space.0 c.args.addr c.args.op)))
+    c.in_err-frame.ensures.unchanged ∙ sym (ap (λ (o : Transition). o.state) (c.in_err-frame.ensures.refused (changes (memory_of c.args.store.now) c.args.space.0 c.args.addr c.args.op)))
 
 pub page-requires : goal.page-requires
 page-requires g c =
@@ -34,7 +34,7 @@ returns-clause-reply g c =
     let read : c.page.result.now ≡ bytes_of opened.page = c.page.ensures.value ∙ opened.bytes in
     let word : c.word_in-word.result ≡ word_at (offset_of c.args.addr) (bytes_of opened.page) =
     c.word_in-word.ensures ∙ ap (λ (at : ℕ). word_at at c.page.result.now) c.offset_of-at.ensures ∙ ap (word_at (offset_of c.args.addr)) read in
-    ap Word word ∙ sym (ap (λ (o : Outcome). o.reply) (opened.passes (changes (memory_of c.args.store.now) c.args.space.0 c.args.addr c.args.op)))
+    ap Word word ∙ sym (ap (λ (o : Transition). o.reply) (opened.passes (changes (memory_of c.args.store.now) c.args.space.0 c.args.addr c.args.op)))
 
 pub returns-clause-memory : goal.returns-clause-memory
 returns-clause-memory g c =
@@ -48,4 +48,4 @@ returns-clause-memory g c =
     let change = c.put.ensures.memory (c.args.space.0, page_of c.args.addr) (frame_open c.args.store.now c.open.new.self c.args.space.0 c.args.addr _ c.in_ok-frame.frame opened) in
     changed_open_at c.args.store.now c.open.new.self c.put.new.self c.args.space.0 c.args.addr _ c.in_ok-frame.frame c.offset_of-at.result c.to_le_bytes.result c.requires.whole opened c.offset_of-at.ensures change
     ∙ ap (λ (new : List ℕ). written s c.args.space.0 (page_of c.args.addr) opened.page (with_bytes (offset_of c.args.addr) new (bytes_of opened.page))) bytes
-    ∙ sym (ap (λ (o : Outcome). o.state) (opened.passes (changes s c.args.space.0 c.args.addr c.args.op)))
+    ∙ sym (ap (λ (o : Transition). o.state) (opened.passes (changes s c.args.space.0 c.args.addr c.args.op)))

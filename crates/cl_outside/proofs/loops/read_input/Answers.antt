@@ -1,10 +1,10 @@
 use Rattle.std.proofs.Common.{◌≤◌, ◌+◌, length, arith}
-use Rattle.cl_outside.specs.declared.loops.TheConstants.{INPUT_LIMIT}
 use Rattle.cl_outside.proofs.ToldLemmas.{took_more}
 use Rattle.cl_outside.proofs.loops.read_input.Goals as goal
+use Rattle.cl_types.specs.declared.limits.TheConstants.{INPUT_BYTES}
 
 -- a piece that could not be kept was taken too
 pub returns-in_err-read_piece-clause-taken : goal.returns-in_err-read_piece-clause-taken
 returns-in_err-read_piece-clause-taken g c =
-    let few : length c.loop-source.bytes.items ≤ INPUT_LIMIT + 1 = c.loop-source.invariant.2 in
-    took_more (INPUT_LIMIT + 1) _ c.loop-source.bytes.items _ _ _ c.loop-source.invariant.0 (omega (arith, few)) c.in_err-read_piece.ensures.taken
+    let few : length c.loop-source.bytes.items ≤ INPUT_BYTES + 1 = c.loop-source.invariant.2 in
+    took_more (INPUT_BYTES + 1) _ c.loop-source.bytes.items _ _ _ c.loop-source.invariant.0 (omega (arith, few)) c.in_err-read_piece.ensures.taken

@@ -3,7 +3,7 @@ use Rattle.frame_model.specs.Frames.{Item}
 use Rattle.node_core.specs.Keeping.{TellsSaid, item_of}
 use Rattle.node_core.specs.declared.outcome.Outcome.{Outcome}
 use Rattle.world.specs.declared.ask.Made.{Made}
-use Rattle.world.specs.declared.ask.Said.TheVariants as said
+use Rattle.world.specs.declared.ask.FrameAnswer.TheVariants as said
 use Rattle.world.specs.Saying.{IsSaidTo}
 use Rattle.world.proofs.NodeLemmas.{answers_said}
 use Rattle.world.proofs.ask.said_of.Goals as goal

@@ -1,6 +1,6 @@
 -- The outcome of one part is put in, and the others stay.
 use Rattle.std.proofs.Common.{ap, subst, sym, ◌∙◌}
-use Rattle.call_cut.specs.declared.outcome.Outcome.TheVariants.{GivenUp}
+use Rattle.call_cut.specs.declared.outcome.PartOutcome.TheVariants.{GivenUp}
 use Rattle.call_cut.specs.Came.{came}
 use Rattle.call_cut.specs.Taking.{Gathers}
 use Rattle.call_cut.proofs.Takings.{put_among, gave_up, gathers_given_up}

@@ -4,7 +4,7 @@ use Rattle.cl_types.specs.declared.reply.Reply.TheVariants.{At}
 use Rattle.hash_buckets.specs.PageMap.{PageMap, IsValid}
 use Rattle.range_alloc.specs.Ranges.{AreRanges, frame_at}
 use Rattle.range_alloc.proofs.Fitting.{some_pages}
-use Rattle.flat_model.specs.Step.{Outcome}
+use Rattle.flat_model.specs.Step.{Transition}
 use Rattle.data_path.specs.Store.{memory_of, IsWhole}
 use Rattle.data_path.proofs.Ranging.{alloc_is, memory_joined, fit_joined, whole_joined}
 use Rattle.data_path.proofs.store.PageStore.alloc_range.Goals as goal
@@ -12,14 +12,14 @@ use Rattle.data_path.proofs.store.PageStore.alloc_range.Goals as goal
 pub returns-in-Some-clause-reply : goal.returns-in-Some-clause-reply
 returns-in-Some-clause-reply c =
     ap (λ (n : ℕ). let reply : Reply = At (record { 0 = n * 4096 }) in reply) c.from.ensures
-    ∙ sym (ap (λ (o : Outcome). o.reply) (alloc_is c.args.self.now c.args.space.0 c.args.pages c.args.perm (Some c.in-Some.start.0) c.in-Some.ensures.start))
+    ∙ sym (ap (λ (o : Transition). o.reply) (alloc_is c.args.self.now c.args.space.0 c.args.pages c.args.perm (Some c.in-Some.start.0) c.in-Some.ensures.start))
 
 pub returns-in-Some-clause-memory : goal.returns-in-Some-clause-memory
 returns-in-Some-clause-memory c =
     let s = c.args.self.now in
     ap (λ (t : PageMap). memory_of (record s { table = t })) c.in-Some.ensures.some
     ∙ memory_joined s c.args.space.0 c.in-Some.start.0 c.args.pages c.args.perm c.requires.whole.fit (some_pages c.args.pages c.requires.pages) c.in-Some.ensures.start
-    ∙ sym (ap (λ (o : Outcome). o.state) (alloc_is s c.args.space.0 c.args.pages c.args.perm (Some c.in-Some.start.0) c.in-Some.ensures.start))
+    ∙ sym (ap (λ (o : Transition). o.state) (alloc_is s c.args.space.0 c.args.pages c.args.perm (Some c.in-Some.start.0) c.in-Some.ensures.start))
 
 pub returns-in-Some-clause-whole : goal.returns-in-Some-clause-whole
 returns-in-Some-clause-whole c =
@@ -31,10 +31,10 @@ returns-in-Some-clause-whole c =
     (subst IsValid is c.in-Some.ensures.valid) (subst AreRanges is c.in-Some.ensures.ranges) (λ q. ap (λ (t : PageMap). frame_at t q) (sym is) ∙ c.in-Some.ensures.frames q)))
 
 pub returns-in-None-clause-reply : goal.returns-in-None-clause-reply
-returns-in-None-clause-reply c = sym (ap (λ (o : Outcome). o.reply) (alloc_is c.args.self.now c.args.space.0 c.args.pages c.args.perm _ c.in-None.ensures.start))
+returns-in-None-clause-reply c = sym (ap (λ (o : Transition). o.reply) (alloc_is c.args.self.now c.args.space.0 c.args.pages c.args.perm _ c.in-None.ensures.start))
 
 pub returns-in-None-clause-memory : goal.returns-in-None-clause-memory
 returns-in-None-clause-memory c =
     let s = c.args.self.now in
     ap (λ (t : PageMap). memory_of (record s { table = t })) c.in-None.ensures.none
-    ∙ sym (ap (λ (o : Outcome). o.state) (alloc_is s c.args.space.0 c.args.pages c.args.perm _ c.in-None.ensures.start))
+    ∙ sym (ap (λ (o : Transition). o.state) (alloc_is s c.args.space.0 c.args.pages c.args.perm _ c.in-None.ensures.start))

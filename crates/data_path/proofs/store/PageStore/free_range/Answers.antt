@@ -9,7 +9,7 @@ use Rattle.range_alloc.specs.Ranges.{AreRanges, AreTaken, span_at}
 use Rattle.range_alloc.proofs.Fitting.{some_pages}
 use Rattle.range_alloc.proofs.Ranges.{page_mapped}
 use Rattle.cl_types.specs.Pages.{page_of}
-use Rattle.flat_model.specs.Step.{Outcome, free, free_if, unmapped}
+use Rattle.flat_model.specs.Step.{Transition, free, free_if, unmapped}
 use Rattle.data_path.specs.declared.store.PageStore.{PageStore}
 use Rattle.data_path.specs.Store.{memory_of, IsWhole}
 use Rattle.data_path.proofs.Ranging.{range_is, Freed, whole_freed, memory_freed}
@@ -23,14 +23,14 @@ free_is s space addr n start stands whole some is by =
 
 pub returns-then-not-unmap_range-clause-reply : goal.returns-then-not-unmap_range-clause-reply
 returns-then-not-unmap_range-clause-reply c =
-    sym (ap (λ (o : Outcome). o.reply) (free_is c.args.self.now c.args.space.0 c.args.addr c.args.pages c.page_of-start.result.0 false c.requires.whole (some_pages c.args.pages c.requires.pages) c.page_of-start.ensures c.if-not-unmap_range.ensures.stands))
+    sym (ap (λ (o : Transition). o.reply) (free_is c.args.self.now c.args.space.0 c.args.addr c.args.pages c.page_of-start.result.0 false c.requires.whole (some_pages c.args.pages c.requires.pages) c.page_of-start.ensures c.if-not-unmap_range.ensures.stands))
 
 pub returns-then-not-unmap_range-clause-memory : goal.returns-then-not-unmap_range-clause-memory
 returns-then-not-unmap_range-clause-memory c =
     let s = c.args.self.now in
     let same = c.if-not-unmap_range.ensures.unchanged refl in
     (λ i. memory_of (record s { table = same.0 i; pool = same.1 i }))
-    ∙ sym (ap (λ (o : Outcome). o.state) (free_is s c.args.space.0 c.args.addr c.args.pages c.page_of-start.result.0 false c.requires.whole (some_pages c.args.pages c.requires.pages) c.page_of-start.ensures c.if-not-unmap_range.ensures.stands))
+    ∙ sym (ap (λ (o : Transition). o.state) (free_is s c.args.space.0 c.args.addr c.args.pages c.page_of-start.result.0 false c.requires.whole (some_pages c.args.pages c.requires.pages) c.page_of-start.ensures c.if-not-unmap_range.ensures.stands))
 
 pub forget-requires : goal.forget-requires
 forget-requires c =
@@ -41,7 +41,7 @@ forget-requires c =
 
 pub returns-clause-reply : goal.returns-clause-reply
 returns-clause-reply c =
-    sym (ap (λ (o : Outcome). o.reply) (free_is c.args.self.now c.args.space.0 c.args.addr c.args.pages c.page_of-start.result.0 true c.requires.whole (some_pages c.args.pages c.requires.pages) c.page_of-start.ensures c.if-not-unmap_range.ensures.stands))
+    sym (ap (λ (o : Transition). o.reply) (free_is c.args.self.now c.args.space.0 c.args.addr c.args.pages c.page_of-start.result.0 true c.requires.whole (some_pages c.args.pages c.requires.pages) c.page_of-start.ensures c.if-not-unmap_range.ensures.stands))
 
 -- the store at the end
 ends : (c : goal.After-refill) → c.refill.new.self ≡ (let s : PageStore = record { table = c.unmap_range.new.table; pool = c.refill.new.self.pool; arena = c.refill.new.self.arena; cache = c.forget.new.self.cache; spaces = c.args.self.now.spaces } in s)
@@ -80,7 +80,7 @@ returns-clause-memory c =
     ∙ ap (λ (t : PageMap). memory_of (record { table = t; pool = c.refill.new.self.pool; arena = c.refill.new.self.arena; cache = c.forget.new.self.cache; spaces = s.spaces })) (c.if-not-unmap_range.ensures.gone refl)
     ∙ memory_freed s c.args.space.0 c.page_of-start.result.0 n c.requires.whole some c.requires.process (spanned c) c.unmap_range.new.pool c.refill.new.self.pool c.refill.new.self.arena c.forget.new.self.cache (freed c)
     ∙ ap (λ (start : ℕ). unmapped (memory_of s) c.args.space.0 start n) c.page_of-start.ensures
-    ∙ sym (ap (λ (o : Outcome). o.state) (free_is s c.args.space.0 c.args.addr n c.page_of-start.result.0 true c.requires.whole some c.page_of-start.ensures c.if-not-unmap_range.ensures.stands))
+    ∙ sym (ap (λ (o : Transition). o.state) (free_is s c.args.space.0 c.args.addr n c.page_of-start.result.0 true c.requires.whole some c.page_of-start.ensures c.if-not-unmap_range.ensures.stands))
 
 pub returns-clause-whole : goal.returns-clause-whole
 returns-clause-whole c =

@@ -1,7 +1,7 @@
 use Rattle.std.proofs.Common.{◌≡◌, None, Some, length, sym, ap, subst, ◌∙◌, arith, rules}
 use Rattle.std.specs.Vec.{vec_len}
 use Rattle.index_lists.specs.NodeLists.{list_at}
-use Rattle.dep_order.specs.declared.row.Row.{Row}
+use Rattle.dep_order.specs.declared.row.WaitRow.{WaitRow}
 use Rattle.dep_order.specs.WaitLists.{AreFit}
 use Rattle.dep_order.proofs.Going.{goes_from, first_from, goes_here, stays_before, stays_waiting}
 use Rattle.dep_order.proofs.Rows.{row_read}
@@ -24,14 +24,14 @@ pub goes-requires : goal.goes-requires
 goes-requires c =
     let lt = below c.self.invariant 0 c.in-Some.place (stands_in c.loop-at.invariant c.in-Some.place c.in-Some.is) in
     let read = row_read c.self.inside.rows.items c.in-Some.place c.index.result.now (omega (arith, c.self.invariant.row_count)) c.index.ensures in
-    subst (λ (r : Row). AreFit r.pages) (sym read) (c.self.invariant.fit c.in-Some.place)
+    subst (λ (r : WaitRow). AreFit r.pages) (sym read) (c.self.invariant.fit c.in-Some.place)
 
 pub returns-then-goes : goal.returns-then-goes
 returns-then-goes c =
     let lt = below c.self.invariant 0 c.in-Some.place (stands_in c.loop-at.invariant c.in-Some.place c.in-Some.is) in
     let read = row_read c.self.inside.rows.items c.in-Some.place c.index.result.now (omega (arith, c.self.invariant.row_count)) c.index.ensures in
     let goes = goes_here c.self.inside.rows.items c.self.inside.places c.self.view_is c.args.from.0 c.in-Some.place c.index.result.now read c.goes.result c.if-from-row.true c.goes.ensures c.if-goes.true in
-    ap (λ (r : Row). Some r.no) read
+    ap (λ (r : WaitRow). Some r.no) read
     ∙ first_from c.self.inside.rows.items c.self.inside.places c.self.view_is c.args.from.0 (Some c.in-Some.place)
     (found c.loop-at.invariant c.in-Some.place c.in-Some.is (c.self.invariant.places_valid.distinct 0) goes)
 

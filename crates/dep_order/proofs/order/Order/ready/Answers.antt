@@ -1,7 +1,7 @@
 use Rattle.std.proofs.Common.{◌≡◌, length, sym, ap, ◌∙◌, arith, rules, subst}
 use Rattle.std.specs.Vec.{vec_len}
 use Rattle.client_model.specs.Order.{may_go}
-use Rattle.dep_order.specs.declared.row.Row.{Row}
+use Rattle.dep_order.specs.declared.row.WaitRow.{WaitRow}
 use Rattle.dep_order.specs.Rows.{print_of}
 use Rattle.dep_order.specs.WaitLists.{AreFit}
 use Rattle.dep_order.proofs.Going.{found_place, place_there, found_ready}
@@ -29,7 +29,7 @@ goes-requires c =
     (sym c.in-Some.is ∙ c.place_of_number.ensures) in
     let lt = below c.self.invariant 0 c.in-Some.place there.0 in
     let read = row_read c.self.inside.rows.items c.in-Some.place c.index.result.now (omega (arith, c.self.invariant.row_count)) c.index.ensures in
-    subst (λ (r : Row). AreFit r.pages) (sym read) (c.self.invariant.fit c.in-Some.place)
+    subst (λ (r : WaitRow). AreFit r.pages) (sym read) (c.self.invariant.fit c.in-Some.place)
 
 pub returns : goal.returns
 returns c =
@@ -39,5 +39,5 @@ returns c =
     let lt = below c.self.invariant 0 c.in-Some.place there.0 in
     let read = row_read c.self.inside.rows.items c.in-Some.place c.index.result.now (omega (arith, c.self.invariant.row_count)) c.index.ensures in
     c.goes.ensures
-    ∙ ap (λ (r : Row). may_go c.args.self.now (print_of r)) read
+    ∙ ap (λ (r : WaitRow). may_go c.args.self.now (print_of r)) read
     ∙ found_ready c.self.invariant c.deref.result.now c.deref.ensures.value c.self.view_is c.args.no.0 c.in-Some.place there.0 there.1

@@ -2,7 +2,7 @@
 use Rattle.std.proofs.Common.{sym, ap, ◌∙◌}
 use Rattle.cl_types.specs.Requests.{request_of}
 use Rattle.flat_model.specs.State.{FlatState}
-use Rattle.flat_model.specs.Step.{Outcome, outcome}
+use Rattle.flat_model.specs.Step.{Transition, outcome}
 use Rattle.node_core.specs.Keeping.{KeptMemory}
 use Rattle.node_core.proofs.Requests.{fields_stay, outcome_seen, state_seen}
 use Rattle.node_core.proofs.memory.MemoryMachine.execute.Goals as goal
@@ -28,7 +28,7 @@ returns-clause-reply g c =
     let request = request_of c.args.request.now in
     let seen = outcome_seen c.self.inside.store c.self.inside.host c.args.pid request c.execute-2.ensures.process
     (sym c.is_offload.ensures ∙ c.if-is_offload.false) c.self.invariant.store.whole in
-    c.execute-2.ensures.reply ∙ sym (ap (λ (o : Outcome). o.reply) seen) ∙ ap (λ (s : FlatState). (outcome s c.args.pid request).reply) (ap (λ (m : KeptMemory). m.flat) c.self.view_is)
+    c.execute-2.ensures.reply ∙ sym (ap (λ (o : Transition). o.reply) seen) ∙ ap (λ (s : FlatState). (outcome s c.args.pid request).reply) (ap (λ (m : KeptMemory). m.flat) c.self.view_is)
 
 pub returns-clause-state : goal.returns-clause-state
 returns-clause-state g c =

@@ -2,7 +2,7 @@ use Rattle.std.proofs.Common.{arith, rules, subst, sym}
 use Rattle.cl_types.specs.Requests.{reply_of}
 use Rattle.client_model.specs.Cut.{Replied}
 use Rattle.client_core.proofs.RowLemmas.{row_waits, row_came}
-use Rattle.client_core.proofs.row.Row.take.Goals as goal
+use Rattle.client_core.proofs.row.CallRow.take.Goals as goal
 
 pub overflow_sub-self : goal.overflow_sub-self
 overflow_sub-self c = row_waits c.args.i c.self.invariant (rw (← c.self.view_is) at c.requires.still)

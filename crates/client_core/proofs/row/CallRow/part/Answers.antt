@@ -1,5 +1,5 @@
 use Rattle.std.proofs.Common.{◌<◌, length, subst}
-use Rattle.client_core.proofs.row.Row.part.Goals as goal
+use Rattle.client_core.proofs.row.CallRow.part.Goals as goal
 use Rattle.client_model.proofs.Buffers.{cut_emptied}
 
 pub part-requires-clause-there : goal.part-requires-clause-there

@@ -1,7 +1,7 @@
 use Rattle.std.proofs.Common.{arith, rules, subst, sym}
 use Rattle.client_model.specs.Cut.{GivenUp}
 use Rattle.client_core.proofs.RowLemmas.{came_within, row_waits, row_came}
-use Rattle.client_core.proofs.row.Row.give_up.Goals as goal
+use Rattle.client_core.proofs.row.CallRow.give_up.Goals as goal
 
 pub give_up-requires : goal.give_up-requires
 give_up-requires c = came_within c.self.inside.gather c.self.inside.call c.args.i _ (rw (← c.self.view_is) at c.requires)
