@@ -4,16 +4,12 @@ ghost use Rattle.std.specs.Prelude.{◌≡◌, ◌≤◌, None, IfOk, length};
 ghost use Rattle.cl_outside.specs.Counts.{no_faults};
 
 use crate::faults::Faults;
-use crate::front::copy_front;
 use crate::real::TICK_MILLIS;
 use crate::{Bound, Peer, Recv, Sent, Wire};
 use std::io;
 use std::io::ErrorKind;
 use std::net::{Ipv4Addr, Net, SocketAddr, SocketAddrV4, UdpSocket};
 use std::time::Duration;
-
-// How many bytes of a datagram are received; the rest of a longer one is lost.
-const DATAGRAM_BYTES: usize = 2048;
 
 /// A socket on 127.0.0.1. A receive waits one tick, 10 milliseconds, before it is idle. Each error
 /// of the system is a fault, and so is a receive or a send with no port.
@@ -49,7 +45,8 @@ impl<N: Net> UdpWire<N> {
         Ok((socket, port))
     }
 
-    // Receives into the front of the buffer, and tells how many bytes came, and from where.
+    // Receives into the front of the buffer, and returns how many bytes came, and from where. The
+    // system cuts a longer datagram to the buffer's length.
     fn receive(&self, buf: &mut [u8]) -> io::Result<(usize, Peer)>
         ensures { IfOk result (λ got. got.0 ≤ length buf.new) }
     {
@@ -113,14 +110,10 @@ impl<N: Net> Wire for UdpWire<N> {
     }
 
     fn recv(&mut self, buf: &mut [u8]) -> Recv {
-        let mut datagram = [0u8; DATAGRAM_BYTES];
-        match self.receive(&mut datagram) {
+        match self.receive(buf) {
             Ok((len, from)) => {
                 self.faults.pass();
-                Recv::Got {
-                    len: copy_front(&datagram[..len], buf),
-                    from,
-                }
+                Recv::Got { len, from }
             }
             Err(error) if is_wait_over(&error) => {
                 self.idles = self.idles.saturating_add(1);
