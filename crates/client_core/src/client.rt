@@ -1,6 +1,6 @@
 //! `Client`: its fields, and the calls that take a call, hand one out, and look.
 
-ghost use Rattle.std.specs.Prelude.{◌≡◌, ◌<◌, ◌≤◌, IfOk, None, leb, option_map, slice_get};
+ghost use Rattle.std.specs.Prelude.{◌≡◌, ◌==◌, ◌<◌, ◌≤◌, IfOk, None, leb, option_map, slice_get};
 ghost use Rattle.cl_types.specs.declared.numbers.TheConstants.{LAST_PID};
 ghost use Rattle.client_model.specs.Client.{ClientState, after_done, held, new_client, ready_at as ready_at_of};
 ghost use Rattle.client_model.specs.Issue.{issue_fault};
@@ -121,6 +121,13 @@ impl Client {
         ensures { result ≡ leb HELD_CALLS (held self.now) }
     {
         self.calls.count() >= HELD_CALLS as usize
+    }
+
+    /// Whether it holds no call: none waits, is in flight or has ended and waits to be handed out.
+    pub fn is_empty(&self) -> bool
+        ensures { result ≡ (held self.now == 0) }
+    {
+        self.calls.count() == 0
     }
 
     /// Its number.
