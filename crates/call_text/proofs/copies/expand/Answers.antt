@@ -1,7 +1,7 @@
 use Rattle.std.proofs.Common.{sym, ap, ◌∙◌, ◌++◌, replicate}
 use Rattle.std.specs.List.{concat}
-use Rattle.world.proofs.CopyLemmas.{repeats_more}
-use Rattle.world.proofs.copies.expand.Goals as goal
+use Rattle.call_text.proofs.CopyLemmas.{repeats_more}
+use Rattle.call_text.proofs.copies.expand.Goals as goal
 
 pub loop-preserved : goal.loop-preserved
 loop-preserved c =
