@@ -1,7 +1,7 @@
 -- Printing that stops in the middle of a text leaves a front of it.
 use Rattle.std.proofs.Common.{◌≡◌, ℕ, [], ◌∷◌, ◌++◌, refl, sym, ap, ◌∙◌, append_assoc, append-nil, subst, Result, Ok, Err}
 use Rattle.std.specs.Result.{OnErr}
-use Rattle.texts.specs.Text.{Text, words}
+use Rattle.texts.specs.Text.{Text, line_of, words}
 use Rattle.transcript_text.specs.Fronts.{IsFront}
 
 -- nothing was printed
@@ -60,6 +60,22 @@ front_after_four old a b c d rest new f = subst (λ (text : Text). IsFront old t
 pub on_err_after_four : {T E : Type 0} (r : Result T E) (old a b c d rest new : Text) → OnErr r (IsFront old (words (a ∷ b ∷ c ∷ d ∷ []) ++ 32 ∷ rest) new) → OnErr r (IsFront old (a ++ 32 ∷ (b ++ 32 ∷ (c ++ 32 ∷ (d ++ 32 ∷ rest)))) new)
 on_err_after_four (Ok x) old a b c d rest new f = tt
 on_err_after_four (Err e) old a b c d rest new f = front_after_four old a b c d rest new f
+
+-- three words and the end of the line
+pub three_words : (a b c : Text) → words (a ∷ b ∷ c ∷ []) ++ 10 ∷ [] ≡ line_of (a ∷ b ∷ c ∷ [])
+three_words a b c = simp append_assoc
+
+-- a front of three words is one of their line
+pub front_in_line : (old a b c new : Text) → IsFront old (words (a ∷ b ∷ c ∷ [])) new → IsFront old (line_of (a ∷ b ∷ c ∷ [])) new
+front_in_line old a b c new f =
+    subst (λ (text : Text). IsFront old text new) (three_words a b c) (front_first old (words (a ∷ b ∷ c ∷ [])) (10 ∷ []) new f)
+
+-- three words were printed, and the end of the line was not
+pub on_err_line : {T E : Type 0} (r : Result T E) (old a b c second new : Text) → second ≡ old ++ words (a ∷ b ∷ c ∷ []) → OnErr r (new ≡ second) → OnErr r (IsFront old (line_of (a ∷ b ∷ c ∷ [])) new)
+on_err_line (Ok x) old a b c second new first is = tt
+on_err_line (Err e) old a b c second new first is =
+    subst (λ (text : Text). IsFront old text new) (three_words a b c)
+    (front_next old (words (a ∷ b ∷ c ∷ [])) (10 ∷ []) second new first (subst (λ (text : Text). IsFront second (10 ∷ []) text) (sym is) (front_none second (10 ∷ []))))
 
 -- the lemmas that printing one text after another asks for
 pub ruleset fronts = (front_none, front_first, front_next, front_byte)

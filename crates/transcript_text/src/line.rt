@@ -29,15 +29,13 @@ fn print_done(done: Value, bytes: &[u8], to: &mut Bytes) -> Result<(), NoMemory>
     }
 }
 
-/// What came of the call that ended.
-fn print_answer(ended: &EndedCall, to: &mut Bytes) -> Result<(), NoMemory>
-    ensures printed { OnOk result
-        (to.new ≡ to.old ++ answer_text ended.now.answer ended.now.bytes) }
-    ensures front { OnErr result
-        (IsFront to.old (answer_text ended.now.answer ended.now.bytes) to.new) }
+/// What came of a call; `bytes` are those that its answer counts.
+pub(crate) fn print_answer(answer: Answer, bytes: &[u8], to: &mut Bytes) -> Result<(), NoMemory>
+    ensures printed { OnOk result (to.new ≡ to.old ++ answer_text answer bytes.now) }
+    ensures front { OnErr result (IsFront to.old (answer_text answer bytes.now) to.new) }
 {
-    match ended.answer {
-        Answer::Done(done) => print_done(done, ended.bytes.as_slice(), to),
+    match answer {
+        Answer::Done(done) => print_done(done, bytes, to),
         Answer::Refused(refusal) => print_words(
             &[Word::Plain("refused"), Word::Plain(refusal_name(refusal))],
             to,
@@ -62,7 +60,7 @@ fn print_ended(ended: &EndedCall, to: &mut Bytes) -> Result<(), NoMemory>
     to.append(b"; answer ")?;
     print_call(ended.client, ended.call, to)?;
     to.append(b" ")?;
-    print_answer(ended, to)?;
+    print_answer(ended.answer, ended.bytes.as_slice(), to)?;
     to.append(b"\n")
 }
 
