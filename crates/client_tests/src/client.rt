@@ -392,3 +392,17 @@ fn the_257th_call_is_refused_until_one_is_handed_out(rt: HostRuntime) -> Result<
     assert_eq!(rt; holds_256(rt.alloc())?, (true, None));
     Ok(())
 }
+
+/// Whether a new client is empty, and one that holds a call is not.
+fn is_empty_until_it_holds_a_call(alloc: Global) -> Result<bool, NoMemory> {
+    let mut client = client(alloc)?;
+    let was = client.is_empty();
+    issue(&mut client, Call::Fence);
+    Ok(was && !client.is_empty())
+}
+
+#[test]
+fn a_client_is_empty_until_it_holds_a_call(rt: HostRuntime) -> Result<(), Fail> {
+    assert!(rt; is_empty_until_it_holds_a_call(rt.alloc())?);
+    Ok(())
+}

@@ -1,11 +1,12 @@
 //! The memory node: a machine of moments and bytes, with no I/O.
 //!
-//! A contract sees a `Node` as the keeping node of `flat_model`, which is a flat state and its latest records, and as the
-//! latest moment that it was given and its translation cache. `Node::step` is one step of the keeping node: it reads a
-//! frame where it lies, gives a recorded reply again, tells that its records are full, or executes the request, and
-//! spells the reply at the start of the buffer. A read's bytes go from their page straight to their place in the reply,
-//! and a write's from the frame straight into the page. After `create` no call answers want of memory, and the pool is
-//! ready after each; a new entry of the translation cache takes memory where there is some.
+//! A contract sees a `Node` as the keeping node of `flat_model`, which is a flat state and its latest records, and as
+//! the latest moment that it was given and its translation cache. `Node::step` is one step of the keeping node, and so
+//! is `Node::handle`, which counts nothing: it reads a frame where it lies, gives a recorded reply again, tells that
+//! its records are full, or executes the request, and spells the reply at the start of the buffer. A read's bytes go
+//! from their page straight to their place in the reply, and a write's from the frame straight into the page. After
+//! `create` no call answers want of memory, and the pool is ready after each; a new entry of the translation cache
+//! takes memory where there is some.
 //!
 //! `Keeper` is that protocol over any `Machine`, and `Memory` is the machine of a node: a page store and the host of its
 //! objects, seen as the flat state that they mean together. Each object is read off the bytes of its offload's space. A

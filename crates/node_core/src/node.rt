@@ -1,6 +1,6 @@
 //! `Node`: the keeping node over its pages.
 
-ghost use Rattle.std.specs.Prelude.{◌≡◌, ◌+◌, ◌≤◌, true, Err, IfErr, IfOk, MatchOption, OnErr, length, option_map};
+ghost use Rattle.std.specs.Prelude.{◌≡◌, ◌+◌, ◌<◌, ◌≤◌, true, Err, IfErr, IfOk, MatchOption, OnErr, length, option_map};
 ghost use Rattle.cl_types.specs.Bytes.{bytes_at};
 ghost use Rattle.cl_types.specs.declared.limits.TheConstants.{FRAME_ROOM};
 ghost use Rattle.cl_types.specs.declared.reply.Refusal.TheVariants.{NoMapping};
@@ -26,13 +26,13 @@ use cl_types::reply::Refusal;
 use cl_types::steps::Steps;
 use data_path::PageStore;
 use std::alloc::Global;
-use std::marker::Model;
-use std::sync::ledger::Ledger;
+use std::marker::{Brand, Model};
+use std::sync::ledger::{Blank, Ledger};
 
 /// A node. A clause sees it as the keeping node, its latest moment, and the entries of its page
 /// table that were used of late.
 ///
-/// `step` handles a frame; `last`, `peek`, `used`, `retained` and `store` only look.
+/// `step` and `handle` handle a frame; `last`, `peek`, `used`, `retained` and `store` only look.
 #[derive(Drop)]
 pub struct Node {
     keeper: Keeper<Memory>,
@@ -95,6 +95,22 @@ impl Node {
         self.keeper.step(now, frame, out, reads, takes)
     }
 
+    /// As `step`, and counts nothing.
+    pub fn handle(&mut self, now: u64, frame: &[u8], out: &mut [u8]) -> Outcome
+        requires later { self.old.last ≤ now }
+        requires room { length out.old ≡ FRAME_ROOM }
+        ensures node { self.new ≡ record {
+          node = node_given latest self.old.node now frame.now;
+          last = now;
+          cache = self.new.cache;
+        } }
+        ensures answer { Tells frame.now (node_answer latest self.old.node now frame.now) result out.new }
+    {
+        let reads = Blank::new(1);
+        let takes = Blank::new(1);
+        counted_step::<Brand, Brand>(self, now, frame, out, reads, takes)
+    }
+
     /// The latest moment that the node was given, in ticks.
     pub fn last(&self) -> u64
         ensures moment { result ≡ self.now.last }
@@ -141,4 +157,29 @@ impl Node {
     {
         self.keeper.machine().store()
     }
+}
+
+/// A step of the node with these counters.
+fn counted_step<A: Ledger, B: Ledger>(
+    node: &mut Node,
+    now: u64,
+    frame: &[u8],
+    out: &mut [u8],
+    reads: Blank,
+    takes: Blank,
+) -> Outcome
+    requires reads { (reads.name ≡ A.name) × (reads.parts ≡ A.parts) × (0 < reads.parts) }
+    requires takes { (takes.name ≡ B.name) × (takes.parts ≡ B.parts) × (0 < takes.parts) }
+    requires later { node.old.last ≤ now }
+    requires room { length out.old ≡ FRAME_ROOM }
+    ensures node { node.new ≡ record {
+      node = node_given latest node.old.node now frame.now;
+      last = now;
+      cache = node.new.cache;
+    } }
+    ensures answer { Tells frame.now (node_answer latest node.old.node now frame.now) result out.new }
+{
+    let mut reads = Steps::<A>::create(reads);
+    let mut takes = Steps::<B>::create(takes);
+    node.step(now, frame, out, &mut reads, &mut takes)
 }

@@ -311,3 +311,21 @@ fn a_page_that_was_read_has_its_entry_in_the_cache(rt: HostRuntime) -> Result<()
     assert_eq!(rt; caches(&mut tried), [false, true]);
     Ok(())
 }
+
+/// Whether a node that handles a frame, and counts nothing, answers it as a step does.
+fn handles_as_it_steps(tried: &mut Tried) -> bool {
+    let mut frame = [0; 64];
+    let len = spell(1, ALLOC, &[0, 1, 3], &mut frame);
+    if tried.node.last() > 0 {
+        return false;
+    }
+    let outcome = tried.node.handle(0, &frame[..len], &mut tried.out);
+    tried.replied(outcome, How::Executed, &[0, 0, 0, 16, 0])
+}
+
+#[test]
+fn a_frame_is_handled_with_nothing_counted(rt: HostRuntime) -> Result<(), Fail> {
+    let mut tried = opened(rt.alloc(), 16, 8, 8, false).expect(&rt, "opens");
+    assert!(rt; handles_as_it_steps(&mut tried));
+    Ok(())
+}

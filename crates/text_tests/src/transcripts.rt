@@ -11,7 +11,7 @@ use cl_types::reply::{Answer, Part, Refusal, Reply, Value};
 use cl_types::request::Request;
 use std::alloc::Global;
 use std::test::Fail;
-use transcript_text::{print_entry, print_line};
+use transcript_text::{print_answered, print_entry, print_line, print_not_issued};
 
 const CLIENT: ClientNo = ClientNo(1);
 
@@ -196,5 +196,23 @@ h 5 0 1.1.0 offload 0 2 9 - = bad op
 fn an_entry_has_its_line(rt: HostRuntime) -> Result<(), Fail> {
     let alloc = rt.alloc();
     assert_eq!(rt; entries(alloc)?.as_slice(), ENTRIES.as_bytes());
+    Ok(())
+}
+
+const CALLS: &str = "3 not issued empty
+4 done 6162
+";
+
+/// Whether the lines of calls of a script are those of `CALLS`.
+fn prints_what_came_of_calls(alloc: Global) -> Result<bool, NoMemory> {
+    let mut to = Bytes::create(alloc);
+    print_not_issued(3, IssueFault::Empty, &mut to)?;
+    print_answered(4, Answer::Done(Value::Len(2)), b"ab", &mut to)?;
+    Ok(to.as_slice() == CALLS.as_bytes())
+}
+
+#[test]
+fn a_call_of_a_script_has_its_line(rt: HostRuntime) -> Result<(), Fail> {
+    assert!(rt; prints_what_came_of_calls(rt.alloc())?);
     Ok(())
 }
