@@ -1,6 +1,5 @@
 pub mod Follows
 pub mod ShowLemmas
-pub mod CopyLemmas
 pub mod IssueLemmas
 pub mod ClientLemmas
 pub mod NodeLemmas

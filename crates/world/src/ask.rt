@@ -1,11 +1,11 @@
 //! A frame at the node.
 
-ghost use Rattle.std.specs.Prelude.{◌≡◌, ◌<◌, ◌≤◌, None, IfOk, length};
+ghost use Rattle.std.specs.Prelude.{◌≡◌, ◌≤◌, None, IfOk, length};
 ghost use Rattle.cl_types.specs.Requests.{request_of};
 ghost use Rattle.frame_model.specs.Frames.{IsHead, head_in, reply_fault, reply_in, request_in};
 ghost use Rattle.node_model.specs.Handling.{latest};
 ghost use Rattle.node_model.specs.Nodes.{ItemAnswer as NodeSaid, node_answer, node_given};
-ghost use Rattle.node_core.specs.Keeping.{Tells, TellsSaid, item_of};
+ghost use Rattle.node_core.specs.Keeping.{TellsSaid, item_of};
 ghost use Rattle.world.specs.Saying.{IsReadable, IsSaid, IsSaidTo, IsShort, IsShortSaid, made_in};
 
 use crate::copies::{own_reply, own_request};
@@ -15,12 +15,9 @@ use cl_types::limits::FRAME_ROOM;
 use cl_types::numbers::ClientNo;
 use cl_types::reply::Reply;
 use cl_types::request::{Request, RequestRef};
-use cl_types::steps::Steps;
 use frame_codec::{RequestView, read_reply, read_request};
 use node_core::{Node, Outcome};
 use std::alloc::Global;
-use std::marker::Brand;
-use std::sync::ledger::{Blank, Ledger};
 
 /// What is kept of a request that was answered.
 #[derive(Drop)]
@@ -76,54 +73,11 @@ pub fn ask(
         (λ said. IsSaid frame.now (node_answer latest node.old.node now frame.now) said out.new) }
     ensures short { IfOk result IsShortSaid }
 {
-    let outcome = step(node, now, frame, out);
+    let outcome = node.handle(now, frame, out);
     match read_request(frame) {
         Err(fault) => Ok(FrameAnswer::Bad(fault)),
         Ok(view) => said_of(alloc, &view, outcome, out),
     }
-}
-
-/// One step of the node. How often it reads its table and takes pages is not asked.
-fn step(node: &mut Node, now: u64, frame: &[u8], out: &mut [u8]) -> Outcome
-    requires later { node.old.last ≤ now }
-    requires room { length out.old ≡ FRAME_ROOM }
-    ensures node { node.new ≡ record {
-      node = node_given latest node.old.node now frame.now;
-      last = now;
-      cache = node.new.cache;
-    } }
-    ensures answer { let answer = node_answer latest node.old.node now frame.now in
-        Tells frame.now answer result out.new }
-{
-    let reads = Blank::new(1);
-    let takes = Blank::new(1);
-    counted_step::<Brand, Brand>(node, now, frame, out, reads, takes)
-}
-
-/// One step of the node with these counters.
-fn counted_step<A: Ledger, B: Ledger>(
-    node: &mut Node,
-    now: u64,
-    frame: &[u8],
-    out: &mut [u8],
-    reads: Blank,
-    takes: Blank,
-) -> Outcome
-    requires reads { (reads.name ≡ A.name) × (reads.parts ≡ A.parts) × (0 < reads.parts) }
-    requires takes { (takes.name ≡ B.name) × (takes.parts ≡ B.parts) × (0 < takes.parts) }
-    requires later { node.old.last ≤ now }
-    requires room { length out.old ≡ FRAME_ROOM }
-    ensures node { node.new ≡ record {
-      node = node_given latest node.old.node now frame.now;
-      last = now;
-      cache = node.new.cache;
-    } }
-    ensures answer { let answer = node_answer latest node.old.node now frame.now in
-        Tells frame.now answer result out.new }
-{
-    let mut reads = Steps::<A>::create(reads);
-    let mut takes = Steps::<B>::create(takes);
-    node.step(now, frame, out, &mut reads, &mut takes)
 }
 
 /// What the node said to a request, by its outcome.

@@ -1,47 +1,13 @@
 //! Copies of what frames and lines lend.
 
 ghost use Rattle.std.specs.Prelude.{◌≡◌, IfOk};
-ghost use Rattle.cl_types.specs.Bytes.{zeros as zeros_of};
 ghost use Rattle.cl_types.specs.Requests.{reply_of as reply_lent, request_of as request_lent};
-ghost use Rattle.cl_types.specs.Written.{call_of as call_written, expanded};
 
-use cl_types::call::Call;
-use cl_types::items::{Bytes, NoMemory};
+use call_text::copied;
+use cl_types::items::NoMemory;
 use cl_types::reply::{Reply, ReplyRef};
 use cl_types::request::{Request, RequestRef};
-use cl_types::schedule::{CallText, Written};
 use std::alloc::Global;
-
-/// The same bytes.
-pub fn copied(alloc: Global, bytes: &[u8]) -> Result<Bytes, NoMemory>
-    ensures { IfOk result (λ copy. copy ≡ bytes.now) }
-{
-    let mut copy = Bytes::create(alloc);
-    copy.append(bytes)?;
-    Ok(copy)
-}
-
-/// So many bytes that are 0.
-pub fn zeros(alloc: Global, count: u32) -> Result<Bytes, NoMemory>
-    ensures { IfOk result (λ bytes. bytes ≡ zeros_of count) }
-{
-    let mut bytes = Bytes::create(alloc);
-    for _ in 0..count {
-        bytes.push(0)?;
-    }
-    Ok(bytes)
-}
-
-/// The bytes that stand written.
-pub fn expand(alloc: Global, written: &Written) -> Result<Bytes, NoMemory>
-    ensures { IfOk result (λ bytes. bytes ≡ expanded written.now) }
-{
-    let mut bytes = Bytes::create(alloc);
-    for _ in 0..written.times {
-        bytes.append(written.bytes.as_slice())?;
-    }
-    Ok(bytes)
-}
 
 /// A request of its own, with the bytes that are lent.
 pub fn own_request(alloc: Global, lent: &RequestRef) -> Result<Request, NoMemory>
@@ -113,44 +79,5 @@ pub fn own_reply(alloc: Global, lent: &ReplyRef) -> Result<Reply, NoMemory>
             let bytes = copied(alloc, bytes)?;
             Ok(Reply::Got(bytes))
         }
-    }
-}
-
-/// The call that stands written, its buffer of zeros.
-pub fn call_of(alloc: Global, text: &CallText) -> Result<Call, NoMemory>
-    ensures { IfOk result (λ call. call ≡ call_written text.now) }
-{
-    match text {
-        CallText::Alloc { pages, perm } => Ok(Call::Alloc {
-            pages: *pages,
-            perm: *perm,
-        }),
-        CallText::Free { addr, pages } => Ok(Call::Free {
-            addr: *addr,
-            pages: *pages,
-        }),
-        CallText::Read { addr, len } => {
-            let buf = zeros(alloc, *len)?;
-            Ok(Call::Read { addr: *addr, buf })
-        }
-        CallText::Write { addr, bytes } => {
-            let bytes = expand(alloc, bytes)?;
-            Ok(Call::Write { addr: *addr, bytes })
-        }
-        CallText::Atomic { addr, op } => Ok(Call::Atomic {
-            addr: *addr,
-            op: *op,
-        }),
-        CallText::Offload { no, op, out, bytes } => {
-            let bytes = expand(alloc, bytes)?;
-            let buf = zeros(alloc, *out)?;
-            Ok(Call::Offload {
-                no: *no,
-                op: *op,
-                bytes,
-                buf,
-            })
-        }
-        CallText::Fence => Ok(Call::Fence),
     }
 }

@@ -8,8 +8,8 @@ ghost use Rattle.world.specs.Running.{stepped};
 ghost use Rattle.world.specs.Worlds.{garbage, shows};
 
 use crate::ask::{FrameAnswer, ask};
-use crate::copies::expand;
 use crate::whole::{Whole, alone, client_at};
+use call_text::expand;
 use cl_types::items::NoMemory;
 use cl_types::limits::FRAME_ROOM;
 use cl_types::line::{Did, EventLine};

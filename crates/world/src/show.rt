@@ -9,8 +9,8 @@ ghost use Rattle.world.specs.Fields.{world_of};
 ghost use Rattle.world.specs.Running.{stepped};
 ghost use Rattle.world.specs.Worlds.{peeked, frame_shown, ticked};
 
-use crate::copies::{copied, zeros};
 use crate::whole::{Whole, alone};
+use call_text::{copied, zeros};
 use cl_types::items::NoMemory;
 use cl_types::line::{Did, EventLine};
 use cl_types::numbers::{Addr, Pid};

@@ -4,8 +4,8 @@ ghost use Rattle.std.specs.Prelude.{◌≡◌, ◌≤◌, [], IfOk, OnOk, length
 ghost use Rattle.client_model.specs.Client.{after_poll, buffer_of, counted, end_told, handed_out, poll, told};
 ghost use Rattle.world.specs.Saying.{IsShortTurn, IsTurned};
 
-use crate::copies::copied;
 use crate::whole::alone;
+use call_text::copied;
 use cl_types::call::Call;
 use cl_types::items::{Bytes, NoMemory};
 use cl_types::limits::FRAME_ROOM;
