@@ -9,6 +9,7 @@ use std::time::{Duration, Instant};
 
 // How many ticks a second has, and how many nanoseconds a tick.
 const TICKS_PER_SECOND: u64 = 1_000 / TICK_MILLIS;
+
 const TICK_NANOS: u32 = 1_000_000_000 / TICKS_PER_SECOND as u32;
 
 /// Counts ticks of 10 milliseconds from its making. Where the system's clock can't be read, it
