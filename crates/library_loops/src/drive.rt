@@ -2,7 +2,7 @@
 
 use crate::link::{Link, send};
 use cl_types::call::Call;
-use cl_types::limits::FRAME_ROOM;
+use cl_types::limits::{FRAME_ROOM, HELD_CALLS};
 use cl_types::reply::{Answer, Value};
 use client_core::{Client, Poll};
 use std::io;
@@ -17,9 +17,10 @@ pub fn ask(client: &mut Client, call: Call) {
 /// Hears what came, polls until nothing is due, and prints the calls that ended. `now` is in ticks and may not fall.
 pub fn drive(rt: &HostRuntime, client: &mut Client, now: u64, link: &mut Link) -> io::Result<()> {
     let mut out = [0; FRAME_ROOM];
-    while let Some(frame) = link.to_client.pop() {
+    for frame in &link.to_client {
         client.hear(frame.as_slice());
     }
+    link.to_client.clear();
     // at most 64 parts are in flight, so no more are sent at one time
     for _ in 0..64 {
         match client.poll(now.max(client.last()), &mut out) {
@@ -28,7 +29,11 @@ pub fn drive(rt: &HostRuntime, client: &mut Client, now: u64, link: &mut Link) -
             Poll::Idle => break,
         }
     }
-    while let Some((no, answer, _call)) = client.done() {
+    // as many calls are held at most
+    for _ in 0..HELD_CALLS {
+        let Some((no, answer, _call)) = client.done() else {
+            break;
+        };
         let number = no.0;
         match answer {
             Answer::Done(Value::At(addr)) => println!(rt;

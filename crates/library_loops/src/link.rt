@@ -2,7 +2,7 @@
 
 use std::alloc::{AllocError, Global};
 
-/// Datagrams on their way, each list handed out from its end: neither loop needs an order.
+/// Datagrams on their way.
 #[derive(Drop)]
 pub struct Link {
     pub to_node: Vec<Vec<u8>>,

@@ -17,7 +17,7 @@ pub fn serve<A: Ledger, B: Ledger>(
     takes: &mut Steps<B>,
 ) -> Result<(), AllocError> {
     let mut out = [0; FRAME_ROOM];
-    while let Some(frame) = link.to_node.pop() {
+    for frame in &link.to_node {
         let now = now.max(node.last());
         match node.step(now, frame.as_slice(), &mut out, reads, takes) {
             Outcome::Replied { len, .. } => send(alloc, &mut link.to_client, &out, len)?,
@@ -25,5 +25,6 @@ pub fn serve<A: Ledger, B: Ledger>(
             Outcome::Busy { .. } | Outcome::Bad(_) => {}
         }
     }
+    link.to_node.clear();
     Ok(())
 }
