@@ -9,12 +9,12 @@ use Rattle.schedule_text.specs.declared.fault.ScheduleFault.{ScheduleFault}
 use Rattle.schedule_text.specs.declared.fault.ScheduleFault.TheVariants.{Line, TooLong, NoMemory}
 
 -- what a line says, where nothing is wrong with that
-abbrev pub sound : grammar.Reading → Result grammar.Said What → Result grammar.Said What
+abbrev pub sound : grammar.Reading → Result grammar.Statement What → Result grammar.Statement What
 sound r (Err what) = Err what
 sound r (Ok said) = elim (first_fault (said_faults r said)) [ Some what ↦ Err what | None ↦ Ok said ]
 
 -- what a line says, where nothing is wrong with its bytes, its spaces and its place
-abbrev pub line_said : grammar.Reading → Text → Result grammar.Said What
+abbrev pub line_said : grammar.Reading → Text → Result grammar.Statement What
 line_said r line = elim (first_fault (place_faults r line (first_word (words_in line)))) [
   | Some what ↦ Err what
   | None ↦ sound r (said_by_words (words_in line))
