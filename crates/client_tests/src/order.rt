@@ -52,9 +52,9 @@ fn goes(alloc: Global) -> Result<([bool; 3], [Option<CallNo>; 5]), NoMemory> {
     ];
     let all = order.first_ready();
     order.end(CallNo(1));
-    let behind_a_read = order.first_ready_of(CallNo(3));
+    let behind_a_read = order.first_ready();
     order.end(CallNo(2));
-    let behind_both = order.first_ready_of(CallNo(3));
+    let behind_both = order.first_ready();
     order.end(CallNo(3));
     let fence = order.first_ready();
     order.end(CallNo(4));
@@ -68,7 +68,7 @@ fn goes(alloc: Global) -> Result<([bool; 3], [Option<CallNo>; 5]), NoMemory> {
 fn a_call_goes_once_those_it_waits_for_have_ended(rt: HostRuntime) -> Result<(), Fail> {
     let first = [
         Some(CallNo(1)),
-        None,
+        Some(CallNo(2)),
         Some(CallNo(3)),
         Some(CallNo(4)),
         Some(CallNo(5)),

@@ -1,5 +1,5 @@
 -- Replies that are all noted at moment 0.
-use Rattle.std.proofs.Common.{◌≡◌, ◌≤◌, ◌-◌, ℕ, List, [], ◌∷◌, ◌++◌, length, drop, tt}
+use Rattle.std.proofs.Common.{◌≡◌, ◌≤◌, ◌-◌, ℕ, zero, suc, List, [], ◌∷◌, ◌++◌, length, drop}
 use Rattle.std.specs.List.{AllByRecursion}
 use Rattle.retry_buffer.specs.declared.noted.Noted.{Noted}
 use Rattle.retry_buffer.specs.Kept.{Kept, AreNotedBy, with_noted}
