@@ -1,0 +1,4 @@
+pub mod Versions
+pub mod Layout
+pub mod Stored
+pub mod Laws
