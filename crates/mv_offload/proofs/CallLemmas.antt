@@ -30,6 +30,7 @@ found {contents} {object = suc index} is =
     let e : suc index - 1 ≡ index = omega arith in
     get-list_of (objects_of contents) (versions_at contents) index (omega (arith, is.below)) ∙ ap (λ i. Some (versions_at contents i)) (sym e)
 
+-- its number of versions is the one in its head
 pub found_number : {objects versions : ℕ} {contents : List ℕ} {object number : ℕ} → IsStore objects versions contents → IsObject contents object number
     → number ≡ length (versions_at contents (object - 1))
 found_number {objects} {versions} {contents} {object} {number} store is = is.is_number ∙ store.sound.number (object - 1) (omega (arith, is.above, is.below))
@@ -43,13 +44,14 @@ number_below {objects} {versions} {contents} index number store there is =
     omega (arith, store.sound.counted)
 
 -- ---- a walk to a version
--- the versions up to a node begin those of an object, and so many stand behind them
+-- the versions up to a node are the first ones of an object, and so many of them follow the one looked for
 pub record IsBack (contents : List ℕ) (index version node behind : ℕ) : Type 0 where
   pub low : node ≤ count_of contents
   pub long : length (versions_up contents node) ≡ version + behind
   pub rest : List (List ℕ)
   pub split : versions_at contents index ≡ versions_up contents node ++ rest
 
+-- the walk begins at the last record
 pub back_start : {objects versions : ℕ} {contents : List ℕ} (index version behind node : ℕ) → IsStore objects versions contents → index < objects_of contents
     → version + behind ≡ number_of contents index → node ≡ last_of contents index → IsBack contents index version node behind
 back_start {objects} {versions} {contents} index version behind node store there sum is = record {
@@ -64,12 +66,14 @@ pub back_node : {contents : List ℕ} {index version node behind : ℕ} → IsBa
 back_node {contents} {node = zero} back some = let none = ap length (versions_none contents) in absurd (omega (arith, back.long))
 back_node {node = suc node} back some = omega arith
 
+-- the versions up to a node are those up to the one before it, and its own
 pub back_split : {objects versions : ℕ} {contents : List ℕ} {index version node behind : ℕ} → IsStore objects versions contents → IsBack contents index version node behind → 1 ≤ node
     → versions_up contents node ≡ versions_up contents (link_of contents (node - 1)) ++ bytes_of contents (node - 1) ∷ []
 back_split {objects} {versions} {contents} {index} {version} {node} {behind} store back some =
     let e : node ≡ node - 1 + 1 = omega arith in
     ap (versions_up contents) e ∙ versions_more contents (node - 1) (λ other low. store.sound.link other (omega (arith, back.low)))
 
+-- a link leads one version back
 pub back_next : {objects versions : ℕ} {contents : List ℕ} {index version node behind : ℕ} → IsStore objects versions contents → IsBack contents index version node behind → 1 ≤ version
     → (next left : ℕ) → next ≡ link_of contents (node - 1) → behind ≡ left + 1 → IsBack contents index version next left
 back_next {objects} {versions} {contents} {index} {version} {node} {behind} store back some next left is fewer =
@@ -86,6 +90,7 @@ back_next {objects} {versions} {contents} {index} {version} {node} {behind} stor
           ∙ ap (λ n. versions_up contents n ++ bytes_of contents (node - 1) ∷ back.rest) (sym is);
     }
 
+-- where none is left to go back, the node has the version that was looked for
 pub back_ends : {objects versions : ℕ} {contents : List ℕ} {index version node behind : ℕ} → IsStore objects versions contents → IsBack contents index version node behind → 1 ≤ version
     → behind ≡ 0 → slice_get (versions_at contents index) (version - 1) ≡ Some (bytes_of contents (node - 1))
 back_ends {objects} {versions} {contents} {index} {version} {node} {behind} store back some none =
@@ -99,14 +104,17 @@ back_ends {objects} {versions} {contents} {index} {version} {node} {behind} stor
     ∙ slice_get_seam before (bytes_of contents (node - 1)) back.rest
 
 -- ---- what the calls give
+-- a create is refused where there are as many objects as there may be
 pub create_full : (contents : List ℕ) (objects versions : ℕ) → objects ≤ objects_of contents → Err ObjectFull ≡ mv_create objects versions (held_in contents)
 create_full contents objects versions full =
     let long = length-list_of (objects_of contents) (versions_at contents) in
     rw (le-leb objects (length (held_in contents)) (omega arith)) refl
 
+-- a create with room adds an object without a version
 with_room : (objects versions : ℕ) (held : Versioned) → length held < objects → mv_create objects versions held ≡ Ok (to_be_bytes w32 (length held + 1), MvObject objects versions (held ++ [] ∷ []))
 with_room objects versions held less = rw (lt-leb objects (length held) less) refl
 
+-- and answers its number
 pub create_done : (old new : List ℕ) (objects versions index : ℕ) → index ≡ objects_of old → index < objects → held_in new ≡ held_in old ++ [] ∷ []
     → Ok (to_be_bytes w32 (index + 1), object_in objects versions new) ≡ mv_create objects versions (held_in old)
 create_done old new objects versions index is room held =
@@ -115,10 +123,12 @@ create_done old new objects versions index is room held =
     ∙ ap (λ n. Ok (to_be_bytes w32 (n + 1), MvObject objects versions (held_in old ++ [] ∷ []))) (sym long)
     ∙ sym (with_room objects versions (held_in old) (omega arith))
 
+-- an append to no object is refused
 pub append_absent : (contents bytes : List ℕ) (objects versions object : ℕ) → item_numbered object (held_in contents) ≡ None
     → Err NoKey ≡ mv_append objects versions (held_in contents) object bytes (item_numbered object (held_in contents))
 append_absent contents bytes objects versions object none = sym (ap (mv_append objects versions (held_in contents) object bytes) none)
 
+-- an append is refused where there are as many versions as there may be
 full_append : (objects versions : ℕ) (held : Versioned) (object : ℕ) (bytes : List ℕ) (those : List (List ℕ)) → versions ≤ version_count held → mv_append objects versions held object bytes (Some those) ≡ Err ObjectFull
 full_append objects versions held object bytes those full = rw (le-leb versions (version_count held) full) refl
 
@@ -128,10 +138,12 @@ append_full {objects} {versions} {contents} {object} {number} store is bytes ful
     sym (ap (mv_append objects versions (held_in contents) object bytes) (found is)
     ∙ full_append objects versions (held_in contents) object bytes (versions_at contents (object - 1)) (omega (arith, store.sound.counted)))
 
+-- an append with room adds its bytes at the end of the object
 room_append : (objects versions : ℕ) (held : Versioned) (object : ℕ) (bytes : List ℕ) (those : List (List ℕ)) → version_count held < versions
     → mv_append objects versions held object bytes (Some those) ≡ Ok (to_be_bytes w32 (length those + 1), MvObject objects versions (slice_set held (object - 1) (those ++ bytes ∷ [])))
 room_append objects versions held object bytes those room = rw (lt-leb versions (version_count held) room) refl
 
+-- and answers their number
 pub append_done : {objects versions : ℕ} {old : List ℕ} {object number : ℕ} → IsStore objects versions old → IsObject old object number → (bytes new : List ℕ) → count_of old < versions
     → held_in new ≡ slice_set (held_in old) (object - 1) (versions_at old (object - 1) ++ bytes ∷ [])
     → Ok (to_be_bytes w32 (number + 1), object_in objects versions new) ≡ mv_append objects versions (held_in old) object bytes (item_numbered object (held_in old))
@@ -142,10 +154,12 @@ append_done {objects} {versions} {old} {object} {number} store is bytes new room
     ∙ sym (ap (mv_append objects versions (held_in old) object bytes) (found is)
     ∙ room_append objects versions (held_in old) object bytes those (omega (arith, store.sound.counted)))
 
+-- a read of no object is refused
 pub read_absent : (contents : List ℕ) (objects versions object version : ℕ) → item_numbered object (held_in contents) ≡ None
     → Err NoKey ≡ mv_read objects versions (held_in contents) (version_of version (item_numbered object (held_in contents)))
 read_absent contents objects versions object version none = sym (ap (λ those. mv_read objects versions (held_in contents) (version_of version those)) none)
 
+-- no version has the number 0, or one past the last
 no_version : (version : ℕ) (those : List (List ℕ)) → (version ≡ 0) ⊎ (length those < version) → item_numbered version those ≡ None
 no_version zero those out = refl
 no_version (suc version) those out = elim out [
@@ -153,6 +167,7 @@ no_version (suc version) those out = elim out [
   | inr past ↦ slice_get_past those version (omega arith)
 ]
 
+-- a read of such a version is refused
 pub read_past : {objects versions : ℕ} {contents : List ℕ} {object number : ℕ} → IsStore objects versions contents → IsObject contents object number → (version : ℕ) → (version ≡ 0) ⊎ (number < version)
     → Err NoKey ≡ mv_read objects versions (held_in contents) (version_of version (item_numbered object (held_in contents)))
 read_past {objects} {versions} {contents} {object} {number} store is version out =
@@ -160,10 +175,12 @@ read_past {objects} {versions} {contents} {object} {number} store is version out
     sym (ap (λ those. mv_read objects versions (held_in contents) (version_of version those)) (found is)
     ∙ ap (mv_read objects versions (held_in contents)) (no_version version (versions_at contents (object - 1)) (elim out [ inl none ↦ inl none | inr past ↦ inr (omega arith) ])))
 
+-- the item of a number is one place lower
 nth_before : {A : Type 0} (version : ℕ) (xs : List A) → 1 ≤ version → item_numbered version xs ≡ slice_get xs (version - 1)
 nth_before zero xs some = absurd (omega arith)
 nth_before (suc version) xs some = let e : version ≡ suc version - 1 = omega arith in ap (slice_get xs) e
 
+-- a read answers the version that is there
 pub read_done : {objects versions : ℕ} {contents : List ℕ} {object number : ℕ} → IsStore objects versions contents → IsObject contents object number → (version : ℕ) (bytes text new : List ℕ) → 1 ≤ version
     → slice_get (versions_at contents (object - 1)) (version - 1) ≡ Some bytes → text ≡ bytes → new ≡ contents
     → Ok (text, object_in objects versions new) ≡ mv_read objects versions (held_in contents) (version_of version (item_numbered object (held_in contents)))
@@ -173,17 +190,19 @@ read_done {objects} {versions} {contents} {object} {number} store is version byt
     ∙ sym (ap (λ those. mv_read objects versions (held_in contents) (version_of version those)) (found is)
     ∙ ap (mv_read objects versions (held_in contents)) (nth_before version (versions_at contents (object - 1)) some ∙ there))
 
+-- the latest version of no object is refused
 pub latest_absent : (contents : List ℕ) (objects versions object : ℕ) → item_numbered object (held_in contents) ≡ None
     → Err NoKey ≡ mv_read objects versions (held_in contents) (latest_of (item_numbered object (held_in contents)))
 latest_absent contents objects versions object none = sym (ap (λ those. mv_read objects versions (held_in contents) (latest_of those)) none)
 
--- the latest of a list of versions, by what stands at its end
+-- the latest of a list of versions, by the item at its end
 latest_none : (those : List (List ℕ)) → item_numbered (length those) those ≡ None → latest_of (Some those) ≡ None
 latest_none those none = rw (none, latest_of) refl
 
 latest_some : (those : List (List ℕ)) (bytes : List ℕ) → item_numbered (length those) those ≡ Some bytes → latest_of (Some those) ≡ Some (to_be_bytes w32 (length those) ++ bytes)
 latest_some those bytes there = rw (there, latest_of) refl
 
+-- and of an object without a version
 pub latest_past : {objects versions : ℕ} {contents : List ℕ} {object number : ℕ} → IsStore objects versions contents → IsObject contents object number → number ≡ 0
     → Err NoKey ≡ mv_read objects versions (held_in contents) (latest_of (item_numbered object (held_in contents)))
 latest_past {objects} {versions} {contents} {object} {number} store is none =
@@ -192,6 +211,7 @@ latest_past {objects} {versions} {contents} {object} {number} store is none =
     sym (ap (λ found. mv_read objects versions (held_in contents) (latest_of found)) (found is)
     ∙ ap (mv_read objects versions (held_in contents)) (latest_none those (no_version (length those) those (inl (omega arith)))))
 
+-- the latest version is the one that has the number of versions as its own
 pub latest_done : {objects versions : ℕ} {contents : List ℕ} {object number : ℕ} → IsStore objects versions contents → IsObject contents object number → (bytes text new : List ℕ) → 1 ≤ number
     → slice_get (versions_at contents (object - 1)) (number - 1) ≡ Some bytes → text ≡ bytes → new ≡ contents
     → Ok (to_be_bytes w32 number ++ text, object_in objects versions new) ≡ mv_read objects versions (held_in contents) (latest_of (item_numbered object (held_in contents)))

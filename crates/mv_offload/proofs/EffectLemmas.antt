@@ -10,10 +10,12 @@ use Rattle.mv_offload.proofs.PlaceLemmas.{AreApart, Leaves, leaves_put, leaves_t
 use Rattle.mv_offload.proofs.StoreLemmas.{Keeps, keeps_then, keeps_left, first_apart, Creates, created_held, created_sound, Appends, appended_held, appended_sound}
 
 -- ---- an empty store
+-- what `init` leaves
 pub record Empties (objects versions : ℕ) (new : List ℕ) : Type 0 where
   pub store : IsStore objects versions new
   pub held : held_in new ≡ []
 
+-- two counts of 0 are a store without an object
 pub emptied : {objects versions : ℕ} (old mid new : List ℕ) → HasPages objects versions old → mid ≡ put_number 0 0 old → new ≡ put_number 2 0 mid → Empties objects versions new
 emptied {objects} {versions} old mid new has is_mid is_new =
     let whole = first_whole has in
@@ -39,32 +41,34 @@ emptied {objects} {versions} old mid new has is_mid is_new =
     }
 
 -- ---- a new object
+-- what `create` leaves
 pub record Created (objects versions : ℕ) (old new : List ℕ) : Type 0 where
   pub store : IsStore objects versions new
   pub held : held_in new ≡ held_in old ++ [] ∷ []
 
-pub created : {objects versions : ℕ} (index : ℕ) (old c0 mid new : List ℕ) → IsStore objects versions old → c0 ≡ old
-    → mid ≡ put_number (head_place index + 2) 0 (put_number (head_place index) 0 c0) → new ≡ put_number 0 (index + 1) mid
+-- a new head and the count are a new object
+pub created : {objects versions : ℕ} (index : ℕ) (old seen mid new : List ℕ) → IsStore objects versions old → seen ≡ old
+    → mid ≡ put_number (head_place index + 2) 0 (put_number (head_place index) 0 seen) → new ≡ put_number 0 (index + 1) mid
     → index ≡ objects_of old → index < objects → Created objects versions old new
-created {objects} {versions} index old c0 mid new store same is_mid is_new is_index room =
+created {objects} {versions} index old seen mid new store same is_mid is_new is_index room =
     let has = store.pages in
     let whole = first_whole has in
-    let front : List ℕ = put_number (head_place index) 0 old in
-    let is_mid' : mid ≡ put_number (head_place index + 2) 0 front = is_mid ∙ ap (λ c. put_number (head_place index + 2) 0 (put_number (head_place index) 0 c)) same in
-    let l1 : Leaves (4 + 4 * index) 2 old front = number_leaves (head_place index) 0 old (omega arith) in
-    let l2 : Leaves (4 + 4 * index + 2) 2 front mid = rw is_mid' (number_leaves (head_place index + 2) 0 front (omega (arith, l1.long))) in
-    let head : Leaves (4 + 4 * index) 4 old mid = leaves_then (leaves_wider (4 + 4 * index) 4 (omega arith) (omega arith) l1) (leaves_wider (4 + 4 * index) 4 (omega arith) (omega arith) l2) in
-    let l3 : Leaves 0 2 mid new = rw is_new (number_leaves 0 (index + 1) mid (omega (arith, head.long))) in
-    let all : Leaves 0 4096 old new = leaves_then (leaves_wider 0 4096 (omega arith) (omega (arith, has.few_objects)) head) (leaves_wider 0 4096 (omega arith) (omega arith) l3) in
-    let last_put : last_of front index ≡ 0 = number_put (head_place index) 0 old (omega arith) (omega arith) in
-    let number_put' : number_of mid index ≡ 0 = ap (number_at (head_place index + 2)) is_mid' ∙ number_put (head_place index + 2) 0 front (omega arith) (omega (arith, l1.long)) in
+    let started : List ℕ = put_number (head_place index) 0 old in
+    let is_head : mid ≡ put_number (head_place index + 2) 0 started = is_mid ∙ ap (λ c. put_number (head_place index + 2) 0 (put_number (head_place index) 0 c)) same in
+    let last_leaves : Leaves (4 + 4 * index) 2 old started = number_leaves (head_place index) 0 old (omega arith) in
+    let held_leaves : Leaves (4 + 4 * index + 2) 2 started mid = rw is_head (number_leaves (head_place index + 2) 0 started (omega (arith, last_leaves.long))) in
+    let head : Leaves (4 + 4 * index) 4 old mid = leaves_then (leaves_wider (4 + 4 * index) 4 (omega arith) (omega arith) last_leaves) (leaves_wider (4 + 4 * index) 4 (omega arith) (omega arith) held_leaves) in
+    let count_leaves : Leaves 0 2 mid new = rw is_new (number_leaves 0 (index + 1) mid (omega (arith, head.long))) in
+    let all : Leaves 0 4096 old new = leaves_then (leaves_wider 0 4096 (omega arith) (omega (arith, has.few_objects)) head) (leaves_wider 0 4096 (omega arith) (omega arith) count_leaves) in
+    let last_is : last_of started index ≡ 0 = number_put (head_place index) 0 old (omega arith) (omega arith) in
+    let number_is : number_of mid index ≡ 0 = ap (number_at (head_place index + 2)) is_head ∙ number_put (head_place index + 2) 0 started (omega arith) (omega (arith, last_leaves.long)) in
     let creates : Creates old new = record {
       objects = ap (number_at 0) is_new ∙ number_put 0 (index + 1) mid (omega (arith, has.few_objects)) (omega (arith, head.long)) ∙ ap (λ n. n + 1) is_index;
-      count = number_left l3 2 (inr (omega arith)) ∙ number_left head 2 (inl (omega arith));
-      last = ap (last_of new) (sym is_index) ∙ number_left l3 (head_place index) (inr (omega arith)) ∙ number_left l2 (head_place index) (inl (omega arith)) ∙ last_put;
-      number = ap (number_of new) (sym is_index) ∙ number_left l3 (head_place index + 2) (inr (omega arith)) ∙ number_put';
-      lasts = λ other less. number_left l3 (head_place other) (inr (omega arith)) ∙ number_left head (head_place other) (inl (omega (arith, is_index)));
-      numbers = λ other less. number_left l3 (head_place other + 2) (inr (omega arith)) ∙ number_left head (head_place other + 2) (inl (omega (arith, is_index)));
+      count = number_left count_leaves 2 (inr (omega arith)) ∙ number_left head 2 (inl (omega arith));
+      last = ap (last_of new) (sym is_index) ∙ number_left count_leaves (head_place index) (inr (omega arith)) ∙ number_left held_leaves (head_place index) (inl (omega arith)) ∙ last_is;
+      number = ap (number_of new) (sym is_index) ∙ number_left count_leaves (head_place index + 2) (inr (omega arith)) ∙ number_is;
+      lasts = λ other less. number_left count_leaves (head_place other) (inr (omega arith)) ∙ number_left head (head_place other) (inl (omega (arith, is_index)));
+      numbers = λ other less. number_left count_leaves (head_place other + 2) (inr (omega arith)) ∙ number_left head (head_place other + 2) (inl (omega (arith, is_index)));
       keeps = keeps_left all (count_of old) store.sound.size (λ slot less. first_apart 0 4096 slot (omega arith));
     } in
     record {
@@ -73,80 +77,83 @@ created {objects} {versions} index old c0 mid new store same is_mid is_new is_in
     }
 
 -- ---- a new version
+-- what `append` leaves
 pub record Appended (objects versions index : ℕ) (bytes old new : List ℕ) : Type 0 where
   pub store : IsStore objects versions new
   pub held : held_in new ≡ slice_set (held_in old) index (versions_at old index ++ bytes ∷ [])
 
--- what a record says when it was written
+-- what a record holds once it is written
 record Written (slot before : ℕ) (bytes old new : List ℕ) : Type 0 where
   pub leaves : Leaves (record_place slot) 260 old new
   pub link : link_of new slot ≡ before
   pub size : size_of new slot ≡ length bytes
   pub text : bytes_of new slot ≡ bytes
 
+-- a record that is written holds what was written
 written : (slot before : ℕ) (bytes old : List ℕ) → record_place slot + 260 ≤ length old → before < 2 ^ 16 → length bytes ≤ 256 → Written slot before bytes old (put_record slot before bytes old)
 unfolding bytes_of
 written slot before bytes old within small short =
     let place : ℕ = record_place slot in
-    let c1 : List ℕ = put_number place before old in
-    let c2 : List ℕ = put_number (place + 2) (length bytes) c1 in
-    let c3 : List ℕ = with_bytes (place + 4) bytes c2 in
-    let l1 : Leaves place 2 old c1 = number_leaves place before old (omega arith) in
-    let l2 : Leaves (place + 2) 2 c1 c2 = number_leaves (place + 2) (length bytes) c1 (omega (arith, l1.long)) in
-    let l3 : Leaves (place + 4) (length bytes) c2 c3 = leaves_put (place + 4) bytes c2 (omega (arith, l1.long, l2.long)) in
-    let link : link_of c3 slot ≡ before = number_left l3 place (inl (omega arith)) ∙ number_left l2 place (inl (omega arith)) ∙ number_put place before old small (omega arith) in
-    let size : size_of c3 slot ≡ length bytes = number_left l3 (place + 2) (inl (omega arith)) ∙ number_put (place + 2) (length bytes) c1 (omega arith) (omega (arith, l1.long)) in
+    let linked : List ℕ = put_number place before old in
+    let sized : List ℕ = put_number (place + 2) (length bytes) linked in
+    let filled : List ℕ = with_bytes (place + 4) bytes sized in
+    let link_leaves : Leaves place 2 old linked = number_leaves place before old (omega arith) in
+    let size_leaves : Leaves (place + 2) 2 linked sized = number_leaves (place + 2) (length bytes) linked (omega (arith, link_leaves.long)) in
+    let text_leaves : Leaves (place + 4) (length bytes) sized filled = leaves_put (place + 4) bytes sized (omega (arith, link_leaves.long, size_leaves.long)) in
+    let link : link_of filled slot ≡ before = number_left text_leaves place (inl (omega arith)) ∙ number_left size_leaves place (inl (omega arith)) ∙ number_put place before old small (omega arith) in
+    let size : size_of filled slot ≡ length bytes = number_left text_leaves (place + 2) (inl (omega arith)) ∙ number_put (place + 2) (length bytes) linked (omega arith) (omega (arith, link_leaves.long)) in
     record {
-      leaves = leaves_then (leaves_wider place 260 (omega arith) (omega arith) l1)
-          (leaves_then (leaves_wider place 260 (omega arith) (omega arith) l2) (leaves_wider place 260 (omega arith) (omega arith) l3));
+      leaves = leaves_then (leaves_wider place 260 (omega arith) (omega arith) link_leaves)
+          (leaves_then (leaves_wider place 260 (omega arith) (omega arith) size_leaves) (leaves_wider place 260 (omega arith) (omega arith) text_leaves));
       link = link;
       size = size;
-      text = ap (λ n. bytes_at (place + 4) n c3) size ∙ piece_put (place + 4) bytes c2 (omega (arith, l1.long, l2.long));
+      text = ap (λ n. bytes_at (place + 4) n filled) size ∙ piece_put (place + 4) bytes sized (omega (arith, link_leaves.long, size_leaves.long));
     }
 
-pub appended : {objects versions : ℕ} (index slot number before : ℕ) (bytes old c0 c1 c2 new : List ℕ) → IsStore objects versions old → c0 ≡ old
-    → c1 ≡ put_record slot before bytes c0
-    → c2 ≡ put_number (head_place index + 2) (number + 1) (put_number (head_place index) (slot + 1) c1)
-    → new ≡ put_number 2 (slot + 1) c2
+-- a new record, its object's head and the count are a new version
+pub appended : {objects versions : ℕ} (index slot number before : ℕ) (bytes old seen wrote_record wrote_head new : List ℕ) → IsStore objects versions old → seen ≡ old
+    → wrote_record ≡ put_record slot before bytes seen
+    → wrote_head ≡ put_number (head_place index + 2) (number + 1) (put_number (head_place index) (slot + 1) wrote_record)
+    → new ≡ put_number 2 (slot + 1) wrote_head
     → index < objects_of old → slot ≡ count_of old → slot < versions → number ≡ number_of old index → before ≡ last_of old index
     → number < 4096 → before < 2 ^ 16 → length bytes ≤ 256 → Appended objects versions index bytes old new
-appended {objects} {versions} index slot number before bytes old c0 c1 c2 new store same is1 is2 is3 there is_slot room is_number is_before few small short =
+appended {objects} {versions} index slot number before bytes old seen wrote_record wrote_head new store same is_record is_head is_count there is_slot room is_number is_before few small short =
     let has = store.pages in
     let sound = store.sound in
     let whole = record_whole has slot room in
     let start = first_whole has in
     let high = record_above slot in
     let few_index : index < 256 = omega (arith, sound.few_objects, has.few_objects) in
-    let wrote : Written slot before bytes old c1 = subst (Written slot before bytes old) (sym (is1 ∙ ap (put_record slot before bytes) same)) (written slot before bytes old whole small short) in
-    let long1 = wrote.leaves.long in
-    let mid : List ℕ = put_number (head_place index) (slot + 1) c1 in
-    let l2 : Leaves (4 + 4 * index) 2 c1 mid = number_leaves (head_place index) (slot + 1) c1 (omega arith) in
-    let l3 : Leaves (4 + 4 * index + 2) 2 mid c2 = rw is2 (number_leaves (head_place index + 2) (number + 1) mid (omega (arith, l2.long))) in
-    let head : Leaves (4 + 4 * index) 4 c1 c2 = leaves_then (leaves_wider (4 + 4 * index) 4 (omega arith) (omega arith) l2) (leaves_wider (4 + 4 * index) 4 (omega arith) (omega arith) l3) in
-    let l4 : Leaves 2 2 c2 new = rw is3 (number_leaves 2 (slot + 1) c2 (omega (arith, head.long))) in
-    let first : Leaves 0 4096 c1 new = leaves_then (leaves_wider 0 4096 (omega arith) (omega arith) head) (leaves_wider 0 4096 (omega arith) (omega arith) l4) in
+    let wrote : Written slot before bytes old wrote_record = subst (Written slot before bytes old) (sym (is_record ∙ ap (put_record slot before bytes) same)) (written slot before bytes old whole small short) in
+    let long = wrote.leaves.long in
+    let mid : List ℕ = put_number (head_place index) (slot + 1) wrote_record in
+    let last_leaves : Leaves (4 + 4 * index) 2 wrote_record mid = number_leaves (head_place index) (slot + 1) wrote_record (omega arith) in
+    let held_leaves : Leaves (4 + 4 * index + 2) 2 mid wrote_head = rw is_head (number_leaves (head_place index + 2) (number + 1) mid (omega (arith, last_leaves.long))) in
+    let head : Leaves (4 + 4 * index) 4 wrote_record wrote_head = leaves_then (leaves_wider (4 + 4 * index) 4 (omega arith) (omega arith) last_leaves) (leaves_wider (4 + 4 * index) 4 (omega arith) (omega arith) held_leaves) in
+    let count_leaves : Leaves 2 2 wrote_head new = rw is_count (number_leaves 2 (slot + 1) wrote_head (omega (arith, head.long))) in
+    let first : Leaves 0 4096 wrote_record new = leaves_then (leaves_wider 0 4096 (omega arith) (omega arith) head) (leaves_wider 0 4096 (omega arith) (omega arith) count_leaves) in
     let link_apart : AreApart (record_place slot) 2 0 4096 = inr (omega arith) in
     let size_apart : AreApart (record_place slot + 2) 2 0 4096 = inr (omega arith) in
-    let short' : size_of c1 slot ≤ 256 = omega (arith, wrote.size) in
-    let kept : Keeps (count_of old) old c1 = keeps_left wrote.leaves (count_of old) sound.size (λ other less. records_apart other slot (omega (arith, is_slot))) in
+    let short_size : size_of wrote_record slot ≤ 256 = omega (arith, wrote.size) in
+    let kept : Keeps (count_of old) old wrote_record = keeps_left wrote.leaves (count_of old) sound.size (λ other less. records_apart other slot (omega (arith, is_slot))) in
     let keeps : Keeps (count_of old) old new = keeps_then kept
     (keeps_left first (count_of old) (λ other less. let e = kept.size other less in let h = sound.size other less in omega arith) (λ other less. first_apart 0 4096 other (omega arith))) in
     let appends : Appends index bytes old new = record {
-      objects = number_left l4 0 (inl (omega arith)) ∙ number_left head 0 (inl (omega arith)) ∙ number_left wrote.leaves 0 (inl (omega arith));
-      count = ap (number_at 2) is3 ∙ number_put 2 (slot + 1) c2 (omega (arith, has.few_versions)) (omega (arith, head.long)) ∙ ap (λ n. n + 1) is_slot;
-      last = number_left l4 (head_place index) (inr (omega arith)) ∙ number_left l3 (head_place index) (inl (omega arith))
-          ∙ number_put (head_place index) (slot + 1) c1 (omega (arith, has.few_versions)) (omega arith) ∙ ap (λ n. n + 1) is_slot;
-      number = number_left l4 (head_place index + 2) (inr (omega arith)) ∙ ap (number_at (head_place index + 2)) is2
-          ∙ number_put (head_place index + 2) (number + 1) mid (omega arith) (omega (arith, l2.long)) ∙ ap (λ n. n + 1) is_number;
-      lasts = λ other less ne. number_left l4 (head_place other) (inr (omega arith))
+      objects = number_left count_leaves 0 (inl (omega arith)) ∙ number_left head 0 (inl (omega arith)) ∙ number_left wrote.leaves 0 (inl (omega arith));
+      count = ap (number_at 2) is_count ∙ number_put 2 (slot + 1) wrote_head (omega (arith, has.few_versions)) (omega (arith, head.long)) ∙ ap (λ n. n + 1) is_slot;
+      last = number_left count_leaves (head_place index) (inr (omega arith)) ∙ number_left held_leaves (head_place index) (inl (omega arith))
+          ∙ number_put (head_place index) (slot + 1) wrote_record (omega (arith, has.few_versions)) (omega arith) ∙ ap (λ n. n + 1) is_slot;
+      number = number_left count_leaves (head_place index + 2) (inr (omega arith)) ∙ ap (number_at (head_place index + 2)) is_head
+          ∙ number_put (head_place index + 2) (number + 1) mid (omega arith) (omega (arith, last_leaves.long)) ∙ ap (λ n. n + 1) is_number;
+      lasts = λ other less ne. number_left count_leaves (head_place other) (inr (omega arith))
           ∙ number_left head (head_place other) (elim (cases_lt other index) [ inl below ↦ inl (omega arith) | inr above ↦ inr (omega (arith, ne)) ])
           ∙ number_left wrote.leaves (head_place other) (inl (omega (arith, sound.few_objects, has.few_objects)));
-      numbers = λ other less ne. number_left l4 (head_place other + 2) (inr (omega arith))
+      numbers = λ other less ne. number_left count_leaves (head_place other + 2) (inr (omega arith))
           ∙ number_left head (head_place other + 2) (elim (cases_lt other index) [ inl below ↦ inl (omega arith) | inr above ↦ inr (omega (arith, ne)) ])
           ∙ number_left wrote.leaves (head_place other + 2) (inl (omega (arith, sound.few_objects, has.few_objects)));
       link = ap (link_of new) (sym is_slot) ∙ number_left first (record_place slot) link_apart ∙ wrote.link ∙ is_before;
       size = ap (size_of new) (sym is_slot) ∙ number_left first (record_place slot + 2) size_apart ∙ wrote.size;
-      text = ap (bytes_of new) (sym is_slot) ∙ bytes_left first slot short' (first_apart 0 4096 slot (omega arith)) ∙ wrote.text;
+      text = ap (bytes_of new) (sym is_slot) ∙ bytes_left first slot short_size (first_apart 0 4096 slot (omega arith)) ∙ wrote.text;
       keeps = keeps;
     } in
     record {

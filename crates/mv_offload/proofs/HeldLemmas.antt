@@ -15,10 +15,12 @@ slice_get_seam (x ∷ xs) y ys = slice_get_seam xs y ys
 
 -- ---- the values of a function below a number
 module _ {A : Type 0} where
+  -- there are as many as the number says
   pub length-list_of : (n : ℕ) (f : ℕ → A) → length (list_of n f) ≡ n
   length-list_of zero f = refl
   length-list_of (suc n) f = length-append (list_of n f) (f n ∷ []) ∙ (let h = length-list_of n f in omega arith)
 
+  -- the value at a place below the number
   pub get-list_of : (n : ℕ) (f : ℕ → A) (i : ℕ) → i < n → slice_get (list_of n f) i ≡ Some (f i)
   get-list_of zero f i less = absurd (omega arith)
   get-list_of (suc n) f i less =
@@ -31,6 +33,7 @@ module _ {A : Type 0} where
             ap (slice_get (list_of n f ++ f n ∷ [])) e ∙ slice_get_seam (list_of n f) (f n) [] ∙ ap (λ m. Some (f m)) e'
       ]
 
+  -- equal functions have equal values
   pub list_of-same : (n : ℕ) (f g : ℕ → A) → ((i : ℕ) → i < n → f i ≡ g i) → list_of n f ≡ list_of n g
   list_of-same zero f g same = refl
   list_of-same (suc n) f g same =

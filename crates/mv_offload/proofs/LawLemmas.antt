@@ -17,11 +17,13 @@ use Rattle.mv_offload.specs.Laws.{left_by, after, VersionsStay, ReadsGiveWhatWas
 use Rattle.mv_offload.proofs.HeldLemmas.{slice_get_seam}
 
 -- ---- lists
+-- the item that was set is there
 put_here : {A : Type 0} (xs : List A) (i : ℕ) (x y : A) → slice_get xs i ≡ Some x → slice_get (slice_set xs i y) i ≡ Some y
 put_here [] i x y there = absurd (cc)
 put_here (z ∷ xs) zero x y there = refl
 put_here (z ∷ xs) (suc i) x y there = put_here xs i x y there
 
+-- the other items stay
 put_other : {A : Type 0} (xs : List A) (i j : ℕ) (y : A) → j ≢ i → slice_get (slice_set xs i y) j ≡ slice_get xs j
 put_other [] i j y ne = refl
 put_other (z ∷ xs) zero zero y ne = absurd (ne refl)
@@ -29,7 +31,7 @@ put_other (z ∷ xs) zero (suc j) y ne = refl
 put_other (z ∷ xs) (suc i) zero y ne = refl
 put_other (z ∷ xs) (suc i) (suc j) y ne = put_other xs i j y (λ e. ne (ap suc e))
 
--- what stands at a number goes on standing there where items come behind
+-- the item of a number stays where items are appended
 nth_left : {A : Type 0} (n : ℕ) (xs ys : List A) (x : A) → item_numbered n xs ≡ Some x → item_numbered n (xs ++ ys) ≡ Some x
 nth_left zero xs ys x there = absurd (cc)
 nth_left (suc i) xs ys x there = slice_get-append xs ys i x there
@@ -46,14 +48,17 @@ by_test : (held : Versioned) (test : Bool) (x y : Given) → Grows held (left_by
 by_test held true x y gx gy = gx
 by_test held false x y gx gy = gy
 
+-- a create adds an object, or is refused
 create_grows : (objects versions : ℕ) (held : Versioned) → Grows held (left_by held (mv_create objects versions held))
 create_grows objects versions held =
     by_test held (leb objects (length held)) (Err ObjectFull) (Ok (to_be_bytes w32 (length held + 1), MvObject objects versions (held ++ [] ∷ []))) Stays (Gains ([] ∷ []))
 
+-- the object of a number is one place lower
 before : (held : Versioned) (object : ℕ) (those : List (List ℕ)) → item_numbered object held ≡ Some those → slice_get held (object - 1) ≡ Some those
 before held zero those there = absurd (cc)
 before held (suc index) those there = let e : suc index - 1 ≡ index = omega arith in ap (slice_get held) e ∙ there
 
+-- an append lengthens an object, or is refused
 append_grows : (objects versions : ℕ) (held : Versioned) (object : ℕ) (bytes : List ℕ) (found : Option (List (List ℕ))) → item_numbered object held ≡ found
     → Grows held (left_by held (mv_append objects versions held object bytes found))
 append_grows objects versions held object bytes None is = Stays
@@ -61,10 +66,12 @@ append_grows objects versions held object bytes (Some those) is =
     by_test held (leb versions (version_count held)) (Err ObjectFull) (Ok (to_be_bytes w32 (length those + 1), MvObject objects versions (slice_set held (object - 1) (those ++ bytes ∷ []))))
     Stays (Longer (object - 1) those bytes (before held object those is))
 
+-- a read changes nothing
 read_grows : (objects versions : ℕ) (held : Versioned) (found : Option (List ℕ)) → Grows held (left_by held (mv_read objects versions held found))
 read_grows objects versions held None = Stays
 read_grows objects versions held (Some bytes) = Stays
 
+-- so each operation does one of the three
 step_grows : (objects versions : ℕ) (held : Versioned) (op : ℕ) (bytes : List ℕ) → Grows held (left_by held (mv_step objects versions held op bytes))
 step_grows objects versions held op bytes =
     let created = mv_create objects versions held in
@@ -86,11 +93,13 @@ record IsThere (held : Versioned) (object version : ℕ) (bytes : List ℕ) : Ty
   pub object_is : item_numbered object held ≡ Some those
   pub version_is : item_numbered version those ≡ Some bytes
 
+-- a version that a read finds is there
 is_there : (held : Versioned) (object version : ℕ) (bytes : List ℕ) (found : Option (List (List ℕ))) → item_numbered object held ≡ found → version_of version found ≡ Some bytes
     → IsThere held object version bytes
 is_there held object version bytes None is there = absurd (cc)
 is_there held object version bytes (Some those) is there = record { those = those; object_is = is; version_is = there }
 
+-- whatever becomes of the objects, a version that is there stays
 grows_keeps : {held new : Versioned} → Grows held new → (object version : ℕ) (bytes : List ℕ) → IsThere held object version bytes → version_of version (item_numbered object new) ≡ Some bytes
 grows_keeps Stays object version bytes there = ap (version_of version) there.object_is ∙ there.version_is
 grows_keeps {held} (Gains more) object version bytes there = ap (version_of version) (nth_left object held more there.those there.object_is) ∙ there.version_is
@@ -106,6 +115,7 @@ grows_keeps {held} (Longer index those text at) (suc i) version bytes there = el
     some_is : {A : Type 0} {x y : A} → Some x ≡ Some y → x ≡ y
     some_is e = cc
 
+-- so it stays over any list of operations
 pub versions_stay : VersionsStay
 versions_stay objects versions object version bytes held [] there = there
 versions_stay objects versions object version bytes held ((op, asked) ∷ calls) there =
@@ -113,6 +123,7 @@ versions_stay objects versions object version bytes held ((op, asked) ∷ calls)
     (grows_keeps (step_grows objects versions held op asked) object version bytes (is_there held object version bytes (item_numbered object held) refl there))
 
 -- ---- what an append gives
+-- an object has at most as many versions as there are over all
 few_versions : (held : Versioned) (index : ℕ) (those : List (List ℕ)) → slice_get held index ≡ Some those → length those ≤ version_count held
 few_versions [] index those there = absurd (cc)
 few_versions (versions ∷ held) zero those there = let e : versions ≡ those = cc in let h = ap length e in let all = sum_by-cons (λ (versions : List (List ℕ)). length versions) versions held in omega (arith, all)
@@ -131,6 +142,7 @@ abbrev answer_in : Given → List ℕ
 answer_in (Ok (answer, object)) = answer
 answer_in (Err refusal) = []
 
+-- an append that was done had its object and room
 append_gave : (objects versions : ℕ) (held : Versioned) (object : ℕ) (bytes answer : List ℕ) (new : Versioned) (found : Option (List (List ℕ))) → item_numbered object held ≡ found
     → mv_append objects versions held object bytes found ≡ Ok (answer, MvObject objects versions new) → IsDone objects versions held object bytes answer new
 append_gave objects versions held object bytes answer new None is gave = absurd (cc)
@@ -153,6 +165,7 @@ record IsAsked (objects versions : ℕ) (held : Versioned) (asked answer : List 
   pub long : 4 ≤ length asked
   pub done : IsDone objects versions held (number_32 0 asked) (drop 4 asked) answer new
 
+-- the bytes of an append that was done have an object's number at the front
 was_asked : (objects versions : ℕ) (held : Versioned) (asked answer : List ℕ) (new : Versioned) → mv_step objects versions held 3 asked ≡ Ok (answer, MvObject objects versions new)
     → IsAsked objects versions held asked answer new
 was_asked objects versions held asked answer new gave = by_long (leb 4 (length asked)) refl (by_short (leb 4 (length asked)) (leb (length asked) (4 + VERSION_BYTES)) gave)
@@ -184,7 +197,7 @@ done_there {held} {object = suc i} {bytes} {answer} {new} done =
     ∙ ap (λ k. item_numbered k (done.those ++ bytes ∷ [])) n
     ∙ slice_get_seam done.those bytes []
 
--- a read of eight bytes gives what stands at its two numbers
+-- a read of eight bytes gives the version of its two numbers
 read_gives : (objects versions : ℕ) (held : Versioned) (front answer bytes : List ℕ) → length front ≡ 4 → length answer ≡ 4
     → version_of (from_be_bytes w32 answer) (item_numbered (from_be_bytes w32 front) held) ≡ Some bytes
     → mv_step objects versions held 2 (front ++ answer) ≡ Ok (bytes, MvObject objects versions held)
@@ -201,6 +214,7 @@ read_gives objects versions held front answer bytes four four' there =
     with_test true sure = refl
     with_test false sure = absurd (cc)
 
+-- a read under the number that an append answered gives the appended bytes, ever after
 pub reads_give_what_was_appended : ReadsGiveWhatWasAppended
 reads_give_what_was_appended objects versions asked answer held new calls small gave =
     let was = was_asked objects versions held asked answer new gave in

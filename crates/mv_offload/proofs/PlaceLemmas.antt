@@ -1,4 +1,4 @@
--- Where the counts, heads and records stand, and what a write leaves of them.
+-- Where the counts, heads and records are, and what a write leaves of them.
 use Rattle.std.proofs.Common.{◌≡◌, ℕ, ◌+◌, ◌/◌, ◌<◌, ◌≤◌, ◌^◌, ◌⊎◌, inl, inr, List, ◌++◌, length, take, sym, ap, subst, ◌∙◌, arith}
 use Rattle.std.specs.Int.{from_be_bytes, to_be_bytes, w16}
 use Rattle.std.proofs.Math.Seq.{take-append_seam}
@@ -11,18 +11,19 @@ use Rattle.cl_types.proofs.PutBytes.{length-with_bytes}
 use Rattle.lemmas.proofs.Pieces.{piece_put, piece_kept_before, piece_kept_behind}
 
 -- ---- places
--- a record lies behind the first page
+-- a record is after the first page
 pub record_above : (slot : ℕ) → 4096 ≤ record_place slot
 unfolding record_place
 record_above slot = omega arith
 
--- the records lie one behind the other
+-- the records are one after the other
 pub records_rise : (slot other : ℕ) → slot < other → record_place slot + 273 ≤ record_place other
 unfolding record_place
 records_rise slot other less =
     let below : slot / 15 ≤ other / 15 = omega arith in
     omega arith
 
+-- and below the end of the numbers of four bytes
 pub record_below : (slot : ℕ) → slot < 4096 → record_place slot + 273 < 2 ^ 32
 unfolding record_place
 record_below slot less = omega arith
@@ -36,6 +37,7 @@ record_in {objects} {versions} {contents} has slot off n less start fits =
     let more : 1 + slot / 15 ≤ (versions + 14) / 15 = omega arith in
     (page, omega arith, omega arith, omega arith, omega (arith, has.pages))
 
+-- a record begins in one page
 pub record_start_in : {objects versions : ℕ} {contents : List ℕ} → HasPages objects versions contents → (slot n : ℕ) → slot < versions → n ≤ 273
     → IsInOnePage (record_place slot) n (length contents)
 record_start_in {objects} {versions} {contents} has slot n less fits =
@@ -46,11 +48,13 @@ record_start_in {objects} {versions} {contents} has slot n less fits =
 pub first_in : {objects versions : ℕ} {contents : List ℕ} → HasPages objects versions contents → (at n : ℕ) → at < 4096 → at + n ≤ 4096 → IsInOnePage at n (length contents)
 first_in has at n start fits = (0, omega arith, omega arith, omega arith, omega (arith, has.pages))
 
+-- a record is within the pages
 pub record_whole : {objects versions : ℕ} {contents : List ℕ} → HasPages objects versions contents → (slot : ℕ) → slot < versions → record_place slot + 260 ≤ length contents
 record_whole has slot less =
     let in_page = record_start_in has slot 260 less (omega arith) in
     omega (arith, in_page.3, in_page.4)
 
+-- the first page is there
 pub first_whole : {objects versions : ℕ} {contents : List ℕ} → HasPages objects versions contents → 4096 ≤ length contents
 first_whole has = omega (arith, has.pages)
 
@@ -64,6 +68,7 @@ pub record Leaves (from size : ℕ) (old new : List ℕ) : Type 0 where
   pub kept : (at n : ℕ) → AreApart at n from size → bytes_at at n new ≡ bytes_at at n old
   pub long : length new ≡ length old
 
+-- a write leaves all but its own place
 pub leaves_put : (at : ℕ) (bytes old : List ℕ) → at + length bytes ≤ length old → Leaves at (length bytes) old (with_bytes at bytes old)
 leaves_put at bytes old within = record {
   kept = λ off n apart. elim apart [
@@ -73,15 +78,18 @@ leaves_put at bytes old within = record {
   long = length-with_bytes at bytes old within;
 }
 
+-- two writes to one place leave the rest
 pub leaves_then : {from size : ℕ} {old mid new : List ℕ} → Leaves from size old mid → Leaves from size mid new → Leaves from size old new
 leaves_then first next = record { kept = λ at n apart. next.kept at n apart ∙ first.kept at n apart; long = next.long ∙ first.long }
 
+-- what is left around a place is left around a wider one
 pub leaves_wider : {from size : ℕ} {old new : List ℕ} (from' size' : ℕ) → from' ≤ from → from + size ≤ from' + size' → Leaves from size old new → Leaves from' size' old new
 leaves_wider from' size' low high leaves = record {
   kept = λ at n apart. leaves.kept at n (elim apart [ inl before ↦ inl (omega arith) | inr behind ↦ inr (omega arith) ]);
   long = leaves.long;
 }
 
+-- a write leaves the pages there
 pub pages_left : {from size objects versions : ℕ} {old new : List ℕ} → Leaves from size old new → HasPages objects versions old → HasPages objects versions new
 pages_left leaves has = record {
   some_objects = has.some_objects;
@@ -92,15 +100,18 @@ pages_left leaves has = record {
 }
 
 -- ---- a number
+-- the number that was put is there
 pub number_put : (at n : ℕ) (old : List ℕ) → n < 2 ^ 16 → at + 2 ≤ length old → number_at at (put_number at n old) ≡ n
 unfolding number_at
 number_put at n old small within =
     ap (from_be_bytes w16) (piece_put at (to_be_bytes w16 n) old (omega arith)) ∙ from_be_bytes-to_be_bytes_2 n small
 
+-- putting a number leaves all but two bytes
 pub number_leaves : (at n : ℕ) (old : List ℕ) → at + 2 ≤ length old → Leaves at 2 old (put_number at n old)
 number_leaves at n old within = leaves_put at (to_be_bytes w16 n) old within
 
 module _ {from size : ℕ} {old new : List ℕ} (leaves : Leaves from size old new) where
+  -- a number apart from the write stays
   pub number_left : (at : ℕ) → AreApart at 2 from size → number_at at new ≡ number_at at old
   unfolding number_at
   number_left at apart = ap (from_be_bytes w16) (leaves.kept at 2 apart)

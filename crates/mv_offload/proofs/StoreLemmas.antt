@@ -15,6 +15,7 @@ pub record Keeps (count : ℕ) (old new : List ℕ) : Type 0 where
   pub size : (slot : ℕ) → slot < count → size_of new slot ≡ size_of old slot
   pub bytes : (slot : ℕ) → slot < count → bytes_of new slot ≡ bytes_of old slot
 
+-- what two writes keep, both keep
 pub keeps_then : {count : ℕ} {old mid new : List ℕ} → Keeps count old mid → Keeps count mid new → Keeps count old new
 keeps_then first next = record {
   link = λ slot less. next.link slot less ∙ first.link slot less;
@@ -54,11 +55,13 @@ versions_more contents slot down =
     (same_versions (link_of contents) (link_of contents) (bytes_of contents) (bytes_of contents) slot (λ other less. down other (omega arith)) (λ other less. refl) (λ other less. refl)
     (link_of contents slot) slot (link_of contents slot) low (omega arith) low)
 
+-- up to no record there is no version
 pub versions_none : (contents : List ℕ) → versions_up contents 0 ≡ []
 unfolding versions_up
 versions_none contents = refl
 
 -- ---- a new object
+-- what is where after a create: the head of a new object, and all else as before
 pub record Creates (old new : List ℕ) : Type 0 where
   pub objects : objects_of new ≡ objects_of old + 1
   pub count : count_of new ≡ count_of old
@@ -69,14 +72,17 @@ pub record Creates (old new : List ℕ) : Type 0 where
   pub keeps : Keeps (count_of old) old new
 
 module _ {objects versions : ℕ} {old new : List ℕ} (store : IsStore objects versions old) (creates : Creates old new) where
+  -- the objects before the new one keep their versions
   created_same : (index : ℕ) → index < objects_of old → versions_at new index ≡ versions_at old index
   created_same index less =
       ap (versions_up new) (creates.lasts index less)
       ∙ versions_kept creates.keeps store.sound.link (last_of old index) (store.sound.last index less)
 
+  -- the new object has none
   created_empty : versions_at new (objects_of old) ≡ []
   created_empty = ap (versions_up new) creates.last ∙ versions_none new
 
+  -- so the objects are those before, and an empty one
   pub created_held : held_in new ≡ held_in old ++ [] ∷ []
   created_held =
       ap (λ n. list_of n (versions_at new)) creates.objects
@@ -84,6 +90,7 @@ module _ {objects versions : ℕ} {old new : List ℕ} (store : IsStore objects 
       ∙ ap (λ xs. xs ++ versions_at new (objects_of old) ∷ []) (list_of-same (objects_of old) (versions_at new) (versions_at old) created_same)
       ∙ ap (λ x. held_in old ++ x ∷ []) created_empty
 
+  -- and all fits together
   pub created_sound : objects_of old < objects → IsSound objects versions new
   created_sound room = record {
     few_objects = omega (arith, creates.objects);
@@ -107,6 +114,7 @@ module _ {objects versions : ℕ} {old new : List ℕ} (store : IsStore objects 
   }
 
 -- ---- a new version
+-- what is where after an append: a new record, its object's head, and all else as before
 pub record Appends (index : ℕ) (bytes old new : List ℕ) : Type 0 where
   pub objects : objects_of new ≡ objects_of old
   pub count : count_of new ≡ count_of old + 1
@@ -120,11 +128,13 @@ pub record Appends (index : ℕ) (bytes old new : List ℕ) : Type 0 where
   pub keeps : Keeps (count_of old) old new
 
 module _ {objects versions index : ℕ} {bytes old new : List ℕ} (store : IsStore objects versions old) (appends : Appends index bytes old new) (there : index < objects_of old) where
+  -- the other objects keep their versions
   appended_same : (other : ℕ) → other < objects_of old → other ≢ index → versions_at new other ≡ versions_at old other
   appended_same other less ne =
       ap (versions_up new) (appends.lasts other less ne)
       ∙ versions_kept appends.keeps store.sound.link (last_of old other) (store.sound.last other less)
 
+  -- a record still leads to those before it
   appended_down : (slot : ℕ) → slot ≤ count_of old → link_of new slot ≤ slot
   appended_down slot low = elim (cases_lt slot (count_of old)) [
     | inl below ↦ let e = appends.keeps.link slot below in let h = store.sound.link slot below in omega arith
@@ -135,6 +145,7 @@ module _ {objects versions index : ℕ} {bytes old new : List ℕ} (store : IsSt
         omega (arith, appends.link)
   ]
 
+  -- the object has one version more, at the end
   appended_here : versions_at new index ≡ versions_at old index ++ bytes ∷ []
   appended_here =
       ap (versions_up new) appends.last
@@ -143,15 +154,18 @@ module _ {objects versions index : ℕ} {bytes old new : List ℕ} (store : IsSt
       ∙ ap (λ those. those ++ bytes_of new (count_of old) ∷ []) (versions_kept appends.keeps store.sound.link (last_of old index) (store.sound.last index there))
       ∙ ap (λ text. versions_at old index ++ text ∷ []) appends.text
 
+  -- so the objects are those before, but for this one
   pub appended_held : held_in new ≡ slice_set (held_in old) index (versions_at old index ++ bytes ∷ [])
   appended_held =
       ap (λ n. list_of n (versions_at new)) appends.objects
       ∙ list_of-set (objects_of old) (versions_at old) (versions_at new) index there appended_same
       ∙ ap (slice_set (held_in old) index) appended_here
 
+  -- its number of versions is one more
   appended_longer : length (versions_at new index) ≡ length (versions_at old index) + 1
   appended_longer = ap length appended_here ∙ length-append (versions_at old index) (bytes ∷ [])
 
+  -- and all fits together
   pub appended_sound : count_of old < versions → length bytes ≤ 256 → IsSound objects versions new
   appended_sound room short = record {
     few_objects = omega (arith, appends.objects, store.sound.few_objects);

@@ -21,3 +21,5 @@ mod pool;
 mod retry;
 #[cfg(test)]
 mod store;
+#[cfg(test)]
+mod versions;
