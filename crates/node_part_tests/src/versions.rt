@@ -1,5 +1,6 @@
 //! A test of `mv_offload`: worked steps of two objects with at most three versions, over a space in memory.
 
+ghost use Rattle.std.specs.Prelude.{◌≤◌, IfOk};
 ghost use Rattle.mv_offload.specs.Stored.{IsStore};
 
 use cl_types::items::NoMemory;
@@ -55,7 +56,8 @@ fn answer(
     out: &mut [u8; PART_BYTES as usize],
 ) -> Result<(u32, usize), Refusal>
     requires { IsStore 2 3 space.old }
-    ensures { IsStore 2 3 space.new }
+    ensures store { IsStore 2 3 space.new }
+    ensures short { IfOk result (λ told. told.1 ≤ 256) }
 {
     match step {
         Create => Ok((MV.create(space)?, 0)),
