@@ -466,7 +466,7 @@ module _ (config : Config) (a : Account) (l : ℕ) where
 
     load_agrees : (k : ℕ) (f : Frame) (note : Note) → frame_at a k ≡ Some f → (load : Load) → f.load ≡ load → SpellsLoad f.bytes f.line load → IsNoteOf load note
         → Delivers event (node_after_load (now a l) load (node_at config a)) (λ (d : ClientNo × ℕ). after_load load (client_at config a d.0)) out (handed (latest config.node.retry) config a l k load)
-        (arrived (read notes out) l k (Some note) f.bytes (elim load [ Asks items ↦ to.NodeState | Answers head reply if_taken ↦ to.Client head.client ]) f.line)
+        (arrived (read notes out) l k (Some note) f.bytes (elim load [ Asks items ↦ to.Node | Answers head reply if_taken ↦ to.Client head.client ]) f.line)
     load_agrees k f note is (Asks items) carries spells its = asks_agree k f items note is carries spells its
     load_agrees k f note is (Answers head reply if_taken) carries spells its = answers_agree k f head reply if_taken note is carries spells its
 

@@ -148,7 +148,7 @@ module _ (l m : ℕ) (more : l < m) (w : WorldState) (h : IsSound l w) where
   polled_sound line s (GivesUp f) within = sound_later l m _ (omega (arith, more)) (stands_sound (GivesUp f) s within)
   polled_sound line s (EndsFence n) within = sound_later l m _ (omega (arith, more)) (stands_sound (EndsFence n) s within)
   polled_sound line s (Sends []) within = sound_later l m _ (omega (arith, more)) (stands_sound (Sends []) s within)
-  polled_sound line s (Sends (o ∷ items)) within = sent_sound l m _ line to.NodeState _ _ (stands_sound (Sends (o ∷ items)) s within) more
+  polled_sound line s (Sends (o ∷ items)) within = sent_sound l m _ line to.Node _ _ (stands_sound (Sends (o ∷ items)) s within) more
   polled_sound line s Idles within = sound_later l m _ (omega (arith, more)) (stands_sound Idles s within)
 
   -- the node or the history is another
@@ -188,7 +188,7 @@ module _ (l m : ℕ) (more : l < m) (w : WorldState) (h : IsSound l w) where
 
   arrived_sound : (line k : ℕ) (note : Option Note) (bytes : List ℕ) (end : End) (sent : ℕ) → IsSound m (arrived w line k note bytes end sent).world
   arrived_sound line k None bytes end sent = same l m more w h
-  arrived_sound line k (Some note) bytes to.NodeState sent = bytes_sound line k note.part bytes (request_fault bytes)
+  arrived_sound line k (Some note) bytes to.Node sent = bytes_sound line k note.part bytes (request_fault bytes)
   arrived_sound line k (Some note) bytes (to.Client c) sent =
       found_sound l m more w h c (client_in w.clients c) (λ s. client_heard w k sent note s bytes (hearing s bytes)) refl (λ s within. heard_sound l m more w h k sent note s bytes (hearing s bytes) within)
 

@@ -67,7 +67,7 @@ module _ (w : WorldState) (l : ℕ) (s : ClientState) where
   turned_one (Sends []) t out told = absurd told
   turned_one (Sends (o ∷ [])) (turned.Quiet line) out told = absurd told
   turned_one (Sends (o ∷ [])) (turned.Sends len part id orig again) out told = λ i. shows
-      (sends_frame (client_stands w (after_poll w.moment (Sends (o ∷ [])) s)) l to.NodeState (told.4 i) (record { part = told.0 i; looked = None }))
+      (sends_frame (client_stands w (after_poll w.moment (Sends (o ∷ [])) s)) l to.Node (told.4 i) (record { part = told.0 i; looked = None }))
       (cond (told.3 i) (did.Again (next_frame w) s.client (told.0 i) (told.1 i) (told.2 i)) (did.Sent (next_frame w) s.client (told.0 i) (told.1 i)))
   turned_one (Sends (o ∷ u ∷ items)) t out told = absurd told
   turned_one Idles (turned.Quiet line) out told = λ i. record { did = told.0 i; ended = told.1 i; world = client_stands w (after_poll w.moment Idles s) }
@@ -163,7 +163,7 @@ heard_so w k line number at s new bytes note t there apart is told =
 
 -- ---- a live frame
 pub to_node : (w : WorldState) (l k : ℕ) (note : Note) (bytes : List ℕ) (end : End) (line : ℕ) (n : NodeState) (s : FrameAnswer) (out : List ℕ) → Some note ≡ note_on w.notes k
-    → Live bytes end line ≡ found_at w.moment (frame_at w.link k) → end ≡ to.NodeState
+    → Live bytes end line ≡ found_at w.moment (frame_at w.link k) → end ≡ to.Node
     → n ≡ node_given latest w.node w.moment bytes → IsSaid bytes (node_answer latest w.node w.moment bytes) s out → said_step (record w { node = n }) l k note.part s out ≡ deliver w l k
 to_node w l k note bytes end line n s out noted found is_end is_node told =
     sym (node_so l k note.part w bytes n s out is_node told)

@@ -106,7 +106,7 @@ polled w l s (EndsFence n) =
 polled w l s (Sends (o ∷ items)) =
     let after : WorldState = client_stands w (after_poll w.moment (Sends (o ∷ items)) s) in
     let bytes : List ℕ = request_frame (head_of s.client s.pid o) o.request in
-    shows (sends_frame after l to.NodeState bytes (record { part = o.part; looked = None })) (sent_text s.client (next_frame w) o)
+    shows (sends_frame after l to.Node bytes (record { part = o.part; looked = None })) (sent_text s.client (next_frame w) o)
 polled w l s other = shows (client_stands w (after_poll w.moment other s)) did.Idle
 
 -- ---- a frame at the node
@@ -186,7 +186,7 @@ client_heard w k line note s bytes (HearsBad fault) = shows w (did.Bad fault)
 -- a live frame came to its end, with its note
 abbrev pub arrived : WorldState → (l k : ℕ) → Option Note → List ℕ → End → ℕ → Stepped
 arrived w l k None bytes end line = shows w (did.Absent k)
-arrived w l k (Some note) bytes to.NodeState line = node_judged w l k note.part bytes (request_fault bytes)
+arrived w l k (Some note) bytes to.Node line = node_judged w l k note.part bytes (request_fault bytes)
 arrived w l k (Some note) bytes (to.Client c) line =
     with_found w (client_in w.clients c) (λ s. client_heard w k line note s bytes (hearing s bytes))
 
