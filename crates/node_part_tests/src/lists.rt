@@ -1,17 +1,15 @@
-//! Tests of `index_lists`: a row of calls.
+//! Tests of `index_lists`: rows of calls.
 
 use index_lists::{Lists, NoMemory};
 use std::alloc::Global;
 use std::test::Fail;
 
-/// Of 3, 1, 2 and 0 in a list, put there in four ways: what is left in order once 2 is taken out of the middle.
-fn left(alloc: Global) -> Result<[Option<u32>; 4], NoMemory> {
+/// What comes off a list whose nodes were put at its end, at its front and behind another.
+fn in_order(alloc: Global) -> Result<[Option<u32>; 4], NoMemory> {
     let mut lists = Lists::create(alloc, 4, 2)?;
-    lists.push_back(0, 1);
-    lists.push_front(0, 3);
-    lists.push_back(0, 0);
+    lists.push_back(0, 3);
+    lists.push_front(0, 1);
     lists.insert_after(2, 1);
-    lists.remove(2);
     Ok([
         lists.pop_front(0),
         lists.pop_front(0),
@@ -20,8 +18,24 @@ fn left(alloc: Global) -> Result<[Option<u32>; 4], NoMemory> {
     ])
 }
 
+/// What comes off a list once a node was taken out of its middle.
+fn left(alloc: Global) -> Result<[Option<u32>; 3], NoMemory> {
+    let mut lists = Lists::create(alloc, 3, 1)?;
+    lists.push_back(0, 2);
+    lists.push_back(0, 0);
+    lists.push_back(0, 1);
+    lists.remove(0);
+    Ok([lists.pop_front(0), lists.pop_front(0), lists.pop_front(0)])
+}
+
 #[test]
 fn a_list_keeps_its_order(rt: HostRuntime) -> Result<(), Fail> {
-    assert_eq!(rt; left(rt.alloc())?, [Some(3), Some(1), Some(0), None]);
+    assert_eq!(rt; in_order(rt.alloc())?, [Some(1), Some(2), Some(3), None]);
+    Ok(())
+}
+
+#[test]
+fn a_node_is_taken_out_of_the_middle(rt: HostRuntime) -> Result<(), Fail> {
+    assert_eq!(rt; left(rt.alloc())?, [Some(2), Some(1), None]);
     Ok(())
 }
