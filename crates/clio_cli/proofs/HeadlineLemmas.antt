@@ -1,5 +1,6 @@
 -- The laws of the account, for every schedule that was read.
-use Rattle.std.proofs.Common.{◌≡◌, ◌∙◌, ℕ, List, Ok, subst, sym}
+use Rattle.std.proofs.Common.{◌≡◌, ◌∙◌, ℕ, List, Option, Ok, subst, sym}
+use Rattle.cl_outside.specs.declared.faults.Faults.{Faults}
 use Rattle.cl_types.specs.declared.schedule.Schedule.{Schedule}
 use Rattle.texts.specs.Text.{Text}
 use Rattle.trace.specs.Events.{account}
