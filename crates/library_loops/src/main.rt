@@ -11,7 +11,6 @@ use cl_types::config::{NodeConfig, OffloadList};
 use cl_types::items::NoMemory;
 use cl_types::numbers::{Addr, ClientNo, Pid, try_pid};
 use cl_types::open_fault::OpenFault;
-use cl_types::steps::Steps;
 use client_core::Client;
 use drive::{ask, drive};
 use link::Link;
@@ -19,8 +18,6 @@ use node_core::Node;
 use serve::serve;
 use std::alloc::Global;
 use std::io;
-use std::marker::Brand;
-use std::sync::ledger::{Blank, Ledger};
 
 // A node of 16 pages whose page table has 8 buckets, with 4 zeroed pages ready and 8 cached replies.
 fn node(alloc: Global) -> Result<Node, OpenFault> {
@@ -42,47 +39,31 @@ fn client(alloc: Global) -> Result<Client, NoMemory> {
     Client::create(alloc, ClientNo(1), pid)
 }
 
-// The client gets a page and, once it has it, adds 5 to a word of it. A turn takes 100 ticks, after which a part without a
-// reply is sent again.
-fn play<A: Ledger, B: Ledger>(rt: &HostRuntime, reads: Blank, takes: Blank) -> io::Result<()>
-    requires reads_name { reads.name ≡ A.name }
-    requires reads_parts { reads.parts ≡ A.parts }
-    requires reads_some { 0 < reads.parts }
-    requires takes_name { takes.name ≡ B.name }
-    requires takes_parts { takes.parts ≡ B.parts }
-    requires takes_some { 0 < takes.parts }
-{
-    let mut reads = Steps::<A>::create(reads);
-    let mut takes = Steps::<B>::create(takes);
-    let (Ok(mut node), Ok(mut client)) = (node(rt.alloc()), client(rt.alloc())) else {
-        return Ok(());
-    };
-    let mut link = Link::create(rt.alloc());
+// A page, and once it is there 5 is added to a word of it.
+fn ask_all(client: &mut Client) {
     ask(
-        &mut client,
+        client,
         Call::Alloc {
             pages: 1,
             perm: Perm::ReadWrite,
         },
     );
-    ask(&mut client, Call::Fence);
+    ask(client, Call::Fence);
     ask(
-        &mut client,
+        client,
         Call::Atomic {
             addr: Addr(0x1000),
             op: AtomicOp::Add { n: 5 },
         },
     );
+}
+
+// Four turns. A turn takes 100 ticks, after which a part without a reply is sent again.
+fn play(rt: &HostRuntime, node: &mut Node, client: &mut Client) -> io::Result<()> {
+    let mut link = Link::create(rt.alloc());
     for turn in 0..4 {
-        drive(rt, &mut client, 100 * turn, &mut link)?;
-        serve(
-            rt.alloc(),
-            &mut node,
-            100 * turn,
-            &mut link,
-            &mut reads,
-            &mut takes,
-        )?;
+        drive(rt, client, 100 * turn, &mut link)?;
+        serve(rt.alloc(), node, 100 * turn, &mut link)?;
         if turn == 0 {
             link.to_client.clear();
         }
@@ -91,5 +72,9 @@ fn play<A: Ledger, B: Ledger>(rt: &HostRuntime, reads: Blank, takes: Blank) -> i
 }
 
 fn main(rt: HostRuntime) -> io::Result<()> {
-    play::<Brand, Brand>(&rt, Blank::new(1), Blank::new(1))
+    let (Ok(mut node), Ok(mut client)) = (node(rt.alloc()), client(rt.alloc())) else {
+        return Ok(());
+    };
+    ask_all(&mut client);
+    play(&rt, &mut node, &mut client)
 }
