@@ -1,1 +1,3 @@
 pub mod HistoryGrammar
+pub mod VerdictLaws
+pub mod Verdicts

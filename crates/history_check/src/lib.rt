@@ -1,2 +1,10 @@
-//! The grammar of histories. Its code is not written yet.
+//! Checks a history: whether its entries, one after another, are a run of the flat machine.
+//!
+//! `check` opens the flat machine of a configuration and gives it each entry. It shares no code with the node, so that a
+//! history which the node made is judged by the machine alone.
 #![tactic(auto)]
+
+mod history;
+pub mod verdict_laws;
+
+pub use history::{CheckFault, Verdict, check};
