@@ -199,9 +199,9 @@ pub(crate) fn call_by_word(
     }
 }
 
-/// The call of a script's line.
+/// The call that the words of a text encode: a line of a script, or the request of an entry.
 #[tactic(auto, using(crate::proofs::CallLemmas::call_forms_by_word))]
-pub(crate) fn call_in_line(alloc: Global, line: &[u8]) -> Result<CallText, LineFault>
+pub fn call_in_line(alloc: Global, line: &[u8]) -> Result<CallText, LineFault>
     ensures { Tells result (call_in_words (words_in line.now)) }
 {
     let (word, rest) = cut(line, b' ');

@@ -18,10 +18,10 @@ pub enum ScheduleFault {
 
 /// Why a line was not read.
 #[derive(Clone, Copy)]
-pub(crate) enum LineFault {
+pub enum LineFault {
     /// This is wrong with it.
     Bad(What),
-    /// There was no memory.
+    /// An allocation failed.
     NoMemory,
 }
 

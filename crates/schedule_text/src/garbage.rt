@@ -4,22 +4,11 @@ ghost use Rattle.std.specs.Prelude.{◌≡◌, IfOk, is_none};
 ghost use Rattle.cl_types.specs.Written.{expanded};
 ghost use Rattle.frame_model.specs.Frames.{reply_fault, request_fault};
 
-use cl_types::items::{Bytes, NoMemory};
+use crate::written::expand;
+use cl_types::items::NoMemory;
 use cl_types::schedule::Written;
 use frame_codec::{read_reply, read_request};
 use std::alloc::Global;
-
-/// The bytes, as often as they stand there.
-#[tactic(auto, using(crate::proofs::WrittenLemmas::expand_more))]
-fn expand(alloc: Global, written: &Written) -> Result<Bytes, NoMemory>
-    ensures { IfOk result (λ bytes. bytes ≡ expanded written.now) }
-{
-    let mut bytes = Bytes::create(alloc);
-    for time in 0..written.times {
-        bytes.append(written.bytes.as_slice())?;
-    }
-    Ok(bytes)
-}
 
 /// Whether the bytes spell a request.
 pub(crate) fn is_request(alloc: Global, written: &Written) -> Result<bool, NoMemory>

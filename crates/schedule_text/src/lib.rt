@@ -5,7 +5,9 @@
 //! Where the bytes or their lines are too many, that alone is told, and want of memory may come in
 //! place of the rest.
 //!
-//! `read` reads a schedule, and `read_script` a script.
+//! `read` reads a schedule, and `read_script` a script. A reader of other texts with the same header or the same words, as
+//! of a transcript, takes `Reading` for the header's lines, `call_in_line` for a call, and the modules `numbers`, `parts`
+//! and `written` for words.
 //!
 //! Whether a node opens with the numbers of a schedule is judged by others. That a call goes once
 //! over its bytes, and before that once to count the lines, can be seen in the code, and no clause
@@ -17,15 +19,17 @@ mod calls;
 mod fault;
 mod garbage;
 mod lines;
-mod numbers;
-mod parts;
+pub mod numbers;
+pub mod parts;
 mod reading;
 mod said;
 mod schedule;
 mod script;
-mod written;
+pub mod written;
 
-pub use fault::ScheduleFault;
-pub use lines::too_long;
+pub use calls::call_in_line;
+pub use fault::{LineFault, ScheduleFault};
+pub use lines::{is_passed_over, next_line, too_long};
+pub use reading::Reading;
 pub use schedule::read;
 pub use script::read_script;

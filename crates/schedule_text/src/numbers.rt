@@ -44,7 +44,7 @@ fn begins_plainly(text: &[u8]) -> bool
 
 /// A decimal number from `low` to `high`.
 #[tactic(auto, using(crate::proofs::NumberLemmas::numbers))]
-pub(crate) fn number(low: u64, high: u64, text: &[u8]) -> Option<u64>
+pub fn number(low: u64, high: u64, text: &[u8]) -> Option<u64>
     ensures value { result ≡ number_in low high text.now }
     ensures range { IfSome result (λ n. (low ≤ n) × (n ≤ high)) }
 {
@@ -111,7 +111,7 @@ fn address_by_digits(digits: &[u8]) -> Option<Addr>
 }
 
 /// An address.
-pub(crate) fn address(text: &[u8]) -> Option<Addr>
+pub fn address(text: &[u8]) -> Option<Addr>
     ensures { result ≡ address_in text.now }
 {
     let (front, digits) = text.split_at_checked(2)?;

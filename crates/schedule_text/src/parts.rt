@@ -13,7 +13,7 @@ fn place_of(bytes: &[u8], separator: u8) -> Option<usize>
 
 /// What stands before the first separator, and what stands behind it, where there is one.
 #[tactic(auto, using(crate::proofs::PartLemmas::split_here, crate::proofs::PartLemmas::split_none))]
-pub(crate) fn cut(bytes: &[u8], separator: u8) -> (&[u8], Option<&[u8]>)
+pub fn cut(bytes: &[u8], separator: u8) -> (&[u8], Option<&[u8]>)
     ensures parts { slice_split (λ b. b == separator) bytes.now
         ≡ result.0.now ∷ parts_left separator result.1 }
     ensures shorter { IfSome result.1 (λ rest. length rest.now < length bytes.now) }

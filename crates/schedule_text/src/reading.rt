@@ -1,6 +1,6 @@
 //! What was read of a schedule so far, line by line.
 
-ghost use Rattle.std.specs.Prelude.{◌≡◌, [], ◌∷◌, ◌++◌, IfOk, OnOk, drop, option_map};
+ghost use Rattle.std.specs.Prelude.{◌≡◌, [], ◌∷◌, ◌++◌, IfOk, OnOk, drop, option_map, true};
 ghost use Rattle.frame_model.specs.Faults.{first_fault};
 ghost use Rattle.texts.specs.Text.{first_word, words_in};
 ghost use Rattle.texts.specs.Grammar.{at_end, event_faults, is_given, line_read, nothing_read, place_faults, read_more, said_faults, with_offload};
@@ -30,7 +30,7 @@ pub struct Reading {
     node: Option<NodeConfig>,
     clients: ClientList,
     events: EventList,
-    // Whether an event was read.
+    // Whether a line after the header was read.
     begun: bool,
 }
 
@@ -300,6 +300,13 @@ impl Reading {
                 Ok(())
             }
         }
+    }
+
+    /// Ends the header: a client's line after this is out of place.
+    pub fn end_header(&mut self)
+        ensures { self.new ≡ record self.old { begun = true } }
+    {
+        self.begun = true;
     }
 
     /// The schedule that was read; `number` is one more than that of the last line.

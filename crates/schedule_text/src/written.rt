@@ -2,6 +2,7 @@
 
 ghost use Rattle.std.specs.Prelude.{◌≡◌, ◌++◌, ◌*◌, ◌/◌, ◌%◌, ◌==◌, ◌&&◌, ◌≤◌, leb, length, IfOk, IfSome, IsTrue};
 ghost use Rattle.std.specs.List.{list_all};
+ghost use Rattle.cl_types.specs.Written.{expanded};
 ghost use Rattle.texts.specs.Words.{BytesWord, argument_in, bytes_of_pairs, is_hex_digit, most_written, times_in, B};
 ghost use Rattle.schedule_text.specs.Parts.{parts_left};
 ghost use Rattle.schedule_text.specs.Telling.{TellsBy};
@@ -64,8 +65,8 @@ fn pairs(alloc: Global, digits: &[u8]) -> Result<Bytes, NoMemory>
     Ok(bytes)
 }
 
-/// Written bytes.
-pub(crate) fn written(alloc: Global, text: &[u8]) -> Result<Written, LineFault>
+/// Bytes in hexadecimal, with a number of repeats where a star follows; a dash is none.
+pub fn written(alloc: Global, text: &[u8]) -> Result<Written, LineFault>
     ensures { TellsBy B result (argument_in BytesWord text.now) }
 {
     if text == b"-".as_slice() {
@@ -84,4 +85,16 @@ pub(crate) fn written(alloc: Global, text: &[u8]) -> Result<Written, LineFault>
         bytes,
         times: times as u32,
     })
+}
+
+/// The bytes, as often as they are written.
+#[tactic(auto, using(crate::proofs::WrittenLemmas::expand_more))]
+pub fn expand(alloc: Global, written: &Written) -> Result<Bytes, NoMemory>
+    ensures { IfOk result (λ bytes. bytes ≡ expanded written.now) }
+{
+    let mut bytes = Bytes::create(alloc);
+    for time in 0..written.times {
+        bytes.append(written.bytes.as_slice())?;
+    }
+    Ok(bytes)
 }
