@@ -1,3 +1,2 @@
-pub mod HistoryGrammar
 pub mod VerdictLaws
 pub mod Verdicts

@@ -1,2 +1,4 @@
+pub mod EntryLemmas
 pub mod FrontLemmas
 pub mod HexLemmas
+pub mod HistoryLemmas

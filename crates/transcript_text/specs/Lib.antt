@@ -1,3 +1,4 @@
 pub mod Fronts
+pub mod HistoryGrammar
 pub mod Statuses
 pub mod Word

@@ -20,7 +20,7 @@ use Rattle.cl_types.specs.declared.schedule.What.TheVariants.{BadByte, BadSpacin
 use Rattle.texts.specs.Text.{Text, is_text}
 use Rattle.texts.specs.Texts.{fault_line}
 use Rattle.texts.specs.Grammar.{Fault}
-use Rattle.history_check.specs.HistoryGrammar.{history_of}
+use Rattle.transcript_text.specs.HistoryGrammar.{history_of}
 use Rattle.flat_model.specs.Run.{IsRun}
 use Rattle.worked_rows.proofs.RowTexts.{text}
 

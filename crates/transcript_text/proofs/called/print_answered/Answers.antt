@@ -1,4 +1,4 @@
-use Rattle.std.proofs.Common.{◌∷◌, ◌++◌, decimal}
+use Rattle.std.proofs.Common.{decimal}
 use Rattle.transcript_text.proofs.FrontLemmas.{front_byte, front_first, front_next, on_err_front}
 use Rattle.transcript_text.proofs.called.print_answered.Goals as goal
 
