@@ -8,4 +8,5 @@ use Rattle.history_check.specs.Verdicts.{IsVerdict}
 -- two verdicts of one history are the same
 abbrev pub VerdictIsFixed : Type 0
 VerdictIsFixed =
-    (c : NodeConfig) (entries : List Entry) (verdict other : Verdict) → IsVerdict c entries verdict → IsVerdict c entries other → verdict ≡ other
+    (c : NodeConfig) (entries : List Entry) (verdict other : Verdict)
+    → IsVerdict c entries verdict → IsVerdict c entries other → verdict ≡ other

@@ -99,7 +99,8 @@ part_in texts = None
 
 -- what precedes an entry's request, where its line, its position and its part are good
 abbrev pub head_of_words : Option ℕ → Option ℕ → Option (ClientNo × Part) → Option EntryHead
-head_of_words (Some line) (Some position) (Some named) = Some (record { line = line; position = position; client = named.0; part = named.1 })
+head_of_words (Some line) (Some position) (Some named) =
+    Some (record { line = line; position = position; client = named.0; part = named.1 })
 head_of_words line position named = None
 
 -- what precedes a request, in three words; the position is 0
@@ -110,7 +111,15 @@ head_in line position name =
 -- the entry of these pieces; the line doesn't have its process, which is 1 here until its client is looked up
 abbrev pub entry_at : EntryHead → Request → Reply → Entry
 entry_at head r given =
-    record { line = head.line; position = head.position; client = head.client; pid = 1; part = head.part; request = r; reply = given }
+    record {
+      line = head.line;
+      position = head.position;
+      client = head.client;
+      pid = 1;
+      part = head.part;
+      request = r;
+      reply = given;
+    }
 
 -- the entry with this head, with the request of these words and the reply of this text
 abbrev pub entry_after : List Text → Text → EntryHead → Option Entry
@@ -167,7 +176,8 @@ process_of clients c = option_map (λ given. given.1) (find (λ given. given.0.0
 -- what was read with this entry of a client of this process
 abbrev pub with_process : HistoryReading → ℕ → Entry → Option ℕ → Result HistoryReading Fault
 with_process h n e None = Err (n, UnknownClient)
-with_process h n e (Some pid) = Ok (record h { reading = record h.reading { begun = true }; entries = h.entries ++ record e { pid = pid } ∷ [] })
+with_process h n e (Some pid) =
+    Ok (record h { reading = record h.reading { begun = true }; entries = h.entries ++ record e { pid = pid } ∷ [] })
 
 -- what was read with this entry, or what is wrong with its line
 abbrev pub with_entry : HistoryReading → ℕ → Option Entry → Result HistoryReading Fault
@@ -206,7 +216,10 @@ with_header h (Ok r) = Ok (record h { reading = r })
 -- the first fault of a line that begins with no known word
 abbrev pub other_line : HistoryReading → ℕ → Text → Result HistoryReading Fault
 other_line h n line =
-    elim (first_fault (place_faults h.reading line (first_word (words_in line)))) [ Some what ↦ Err (n, what) | None ↦ Err (n, UnknownWord) ]
+    elim (first_fault (place_faults h.reading line (first_word (words_in line)))) [
+      | Some what ↦ Err (n, what)
+      | None ↦ Err (n, UnknownWord)
+    ]
 
 -- the words that begin header lines
 abbrev pub header_words : List Text
@@ -240,7 +253,8 @@ history_at_end h n = with_end h n (at_end n h.reading h.reading.node)
 -- the configuration and the entries with the lines from number n on, or the first bad line
 abbrev pub history_from : HistoryReading → ℕ → List Text → Result (Config × List Entry) Fault
 history_from h n [] = history_at_end h n
-history_from h n (line ∷ lines) = elim (history_line h n line) [ Err fault ↦ Err fault | Ok more ↦ history_from more (n + 1) lines ]
+history_from h n (line ∷ lines) =
+    elim (history_line h n line) [ Err fault ↦ Err fault | Ok more ↦ history_from more (n + 1) lines ]
 
 -- what was read before the first line
 abbrev pub no_history : HistoryReading

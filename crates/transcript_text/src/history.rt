@@ -1,6 +1,7 @@
 //! The history of a transcript, read back line by line.
 
-ghost use Rattle.std.specs.Prelude.{◌≡◌};
+ghost use Rattle.std.specs.Prelude.{◌≡◌, ◌≤◌, IfOk, length};
+ghost use Rattle.cl_types.specs.declared.limits.TheConstants.{INPUT_LINES};
 ghost use Rattle.std.specs.List.{list_any};
 ghost use Rattle.texts.specs.Text.{is_text};
 ghost use Rattle.transcript_text.specs.HistoryGrammar.{HistoryReading, by_first_word, count_in, end_line, entry_line, header_words, history_at_end, history_line, history_of, is_after, is_event_line, judged_history_line, no_history, other_line, process_of, rises, with_count, with_entry, with_header, with_process};
@@ -262,9 +263,10 @@ impl History {
 
 /// Reads the configuration and the history of a transcript, or reports its first bad line. Lines that begin with a digit
 /// are skipped, so that the events' lines don't count. The process of an entry is that of its client's line. That the
-/// bytes or their lines are too many is reported before any line.
+/// bytes or their lines are too many is reported before any line. There are not more entries than there may be lines.
 pub fn read_history(alloc: Global, bytes: &[u8]) -> Result<(Config, EntryList), ScheduleFault>
-    ensures { Reads bytes.now (history_of bytes.now) result }
+    ensures reads { Reads bytes.now (history_of bytes.now) result }
+    ensures few { IfOk result (λ read. length read.1 ≤ INPUT_LINES) }
 {
     if let Some(fault) = too_long(bytes) {
         return Err(fault);
