@@ -1,12 +1,12 @@
 -- Generated schedules: the numbers of a generator, drawn in the order in which they are named here.
-use Rattle.std.specs.Prelude.{ℕ, zero, suc, ◌+◌, ◌*◌, ◌%◌, ◌==◌, nat_lt, List, [], ◌∷◌, ◌++◌, flat_map, if◌then◌else◌, codes}
+use Rattle.std.specs.Prelude.{ℕ, zero, suc, ◌+◌, ◌*◌, ◌%◌, ◌==◌, nat_lt, List, [], ◌∷◌, ◌++◌, flat_map, map, if◌then◌else◌, codes}
 use Rattle.std.specs.List.{enumerate_from}
 use Rattle.rand_core.specs.Pcg32Seed.{pcg32_seed}
 use Rattle.rand_pcg.specs.Lcg.{Lcg}
 use Rattle.rand_pcg.specs.Pcg.{pcg32, pcg32_of_seed}
+use Rattle.cl_types.specs.declared.config.Config.{Config}
 use Rattle.cl_types.specs.declared.limits.TheConstants.{PAGE_BYTES}
 use Rattle.cl_types.specs.declared.numbers.Addr.{Addr}
-use Rattle.cl_types.specs.declared.numbers.ClientNo.{ClientNo}
 use Rattle.cl_types.specs.declared.call.Perm.TheVariants.{ReadWrite}
 use Rattle.cl_types.specs.declared.call.AtomicOp.TheVariants.{Lock, Add}
 use Rattle.cl_types.specs.declared.schedule.CallText.{CallText}
@@ -14,6 +14,7 @@ use Rattle.cl_types.specs.declared.schedule.CallText.TheVariants as call
 use Rattle.cl_types.specs.declared.schedule.Event.{Event}
 use Rattle.cl_types.specs.declared.schedule.Event.TheVariants as event
 use Rattle.cl_types.specs.declared.schedule.Schedule.{Schedule}
+use Rattle.storm_gen.specs.declared.choice.Choice.{Choice}
 use Rattle.texts.specs.Text.{Text, line_end}
 
 -- ---- draws
@@ -22,21 +23,14 @@ abbrev pub Drawn : Type 0 → Type 0
 Drawn A = A × Lcg
 
 -- the generator as a seed starts it
-abbrev pub generator : ℕ → Lcg
+unfoldable pub generator : ℕ → Lcg
 generator seed = pcg32_of_seed (pcg32_seed 16 seed)
 
 -- the generator's next word modulo n
-abbrev pub draw : ℕ → Lcg → Drawn ℕ
+unfoldable pub draw : ℕ → Lcg → Drawn ℕ
 draw n g = let word : ℕ × Lcg = pcg32 g in (word.0 % n, word.1)
 
 -- ---- one call
--- what is drawn for each call: its client, its kind, an address, and a number of bytes
-pub record Choice : Type 0 where
-  pub client : ClientNo
-  pub kind : ℕ
-  pub addr : Addr
-  pub len : ℕ
-
 -- the address at an offset, in bytes, of a page
 abbrev pub address_of : (page offset : ℕ) → Addr
 address_of page offset = record { 0 = page * PAGE_BYTES + offset }
@@ -87,20 +81,30 @@ repeat_of i chance =
 abbrev pub tick_of : Drawn ℕ → Drawn (List Event)
 tick_of by = (if by.0 == 0 then [] else event.Tick by.0 ∷ [], by.1)
 
--- the events of round i
-abbrev pub round : ℕ → Lcg → Drawn (List Event)
-round i g =
+-- a drawn call, a poll of its client, and a poll of a drawn client
+abbrev pub called : Lcg → Drawn (List Event)
+called g =
     let c : Drawn Choice = choice g in
-    let called : Drawn CallText = call_drawn c.0 c.1 in
-    let other : Drawn Event = poll_drawn (draw 4 called.1) in
-    let first : Drawn Event = frame_drawn other.1 in
+    let call : Drawn CallText = call_drawn c.0 c.1 in
+    let other : Drawn Event = poll_drawn (draw 4 call.1) in
+    (event.Call c.0.client call.0 ∷ event.Poll c.0.client ∷ other.0 ∷ [], other.1)
+
+-- three frames
+abbrev pub frames_drawn : Lcg → Drawn (List Event)
+frames_drawn g =
+    let first : Drawn Event = frame_drawn g in
     let second : Drawn Event = frame_drawn first.1 in
     let third : Drawn Event = frame_drawn second.1 in
-    let repeat : Drawn (List Event) = repeat_of i (draw 10 third.1) in
-    let tick : Drawn (List Event) = tick_of (draw 3 repeat.1) in (
-      event.Call c.0.client called.0 ∷ event.Poll c.0.client ∷ other.0 ∷ first.0 ∷ second.0 ∷ third.0 ∷ (repeat.0 ++ tick.0),
-      tick.1,
-    )
+    (first.0 ∷ second.0 ∷ third.0 ∷ [], third.1)
+
+-- the events of round i
+unfoldable pub round : ℕ → Lcg → Drawn (List Event)
+round i g =
+    let call : Drawn (List Event) = called g in
+    let frames : Drawn (List Event) = frames_drawn call.1 in
+    let repeat : Drawn (List Event) = repeat_of i (draw 10 frames.1) in
+    let tick : Drawn (List Event) = tick_of (draw 3 repeat.1) in
+    (call.0 ++ frames.0 ++ repeat.0 ++ tick.0, tick.1)
 
 -- so many rounds, counted from i
 abbrev pub rounds : ℕ → ℕ → Lcg → List Event
@@ -118,12 +122,18 @@ abbrev pub deliveries : ℕ → List Event
 deliveries zero = []
 deliveries (suc n) = event.DeliverNext ∷ deliveries n
 
--- so many times each client is polled, eight frames are handed out, and time goes on
-abbrev pub settles : ℕ → List Event
+-- each of these clients is polled
+abbrev pub polls : List ℕ → List Event
+polls clients = map (λ c. event.Poll (record { 0 = c })) clients
+
+-- each client is polled, eight frames are handed out, and time goes on
+unfoldable pub settle : List Event
+settle = polls (1 ∷ 2 ∷ 3 ∷ 4 ∷ []) ++ deliveries 8 ++ event.Tick 10 ∷ []
+
+-- so many times all of this
+unfoldable pub settles : ℕ → List Event
 settles zero = []
-settles (suc n) =
-    event.Poll (record { 0 = 1 }) ∷ event.Poll (record { 0 = 2 }) ∷ event.Poll (record { 0 = 3 }) ∷ event.Poll (record { 0 = 4 })
-    ∷ (deliveries 8 ++ event.Tick 10 ∷ settles n)
+settles (suc n) = settle ++ settles n
 
 -- all events: each client allocates, one round for each call, and 64 closing rounds
 abbrev pub events_drawn : (seed calls : ℕ) → List Event
@@ -135,13 +145,13 @@ header =
     codes "node 512 1024 16 4096" ++ line_end ++ codes "client 1 1" ++ line_end ++ codes "client 2 1" ++ line_end
     ++ codes "client 3 2" ++ line_end ++ codes "client 4 2" ++ line_end
 
+-- the node of every generated schedule, and its four clients
+abbrev pub config : Config
+config = record {
+  node = record { pages = 512; buckets = 1024; ring = 16; retry = 4096; offloads = [] };
+  clients = (record { 0 = 1 }, 1) ∷ (record { 0 = 2 }, 1) ∷ (record { 0 = 3 }, 2) ∷ (record { 0 = 4 }, 2) ∷ [];
+}
+
 -- the schedule of a seed and a number of calls; its five header lines come first
 abbrev pub generated : (seed calls : ℕ) → Schedule
-generated seed calls = record {
-  header = header;
-  config = record {
-    node = record { pages = 512; buckets = 1024; ring = 16; retry = 4096; offloads = [] };
-    clients = (record { 0 = 1 }, 1) ∷ (record { 0 = 2 }, 1) ∷ (record { 0 = 3 }, 2) ∷ (record { 0 = 4 }, 2) ∷ [];
-  };
-  events = enumerate_from 6 (events_drawn seed calls);
-}
+generated seed calls = record { header = header; config = config; events = enumerate_from 6 (events_drawn seed calls) }

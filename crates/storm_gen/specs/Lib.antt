@@ -1,2 +1,4 @@
 pub mod Generated
+pub mod Numbering
+pub mod Drawing
 pub mod SummaryTexts
