@@ -1,3 +1,4 @@
 pub mod LineLemmas
 pub mod RoundLemmas
 pub mod SettlingLemmas
+pub mod SuitLemmas

@@ -37,4 +37,5 @@ numbered_on_push es new next x old pushed =
 pub rest_after : (old new part rest more whole : List Event)
     → new ≡ old ++ part → rest ≡ part ++ more → old ++ rest ≡ whole → new ++ more ≡ whole
 rest_after old new part rest more whole added split before =
-    ap (λ (lines : List Event). lines ++ more) added ∙ append_assoc old part more ∙ ap (λ (tail : List Event). old ++ tail) (sym split) ∙ before
+    ap (λ (lines : List Event). lines ++ more) added ∙ append_assoc old part more
+    ∙ ap (λ (tail : List Event). old ++ tail) (sym split) ∙ before

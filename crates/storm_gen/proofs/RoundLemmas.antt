@@ -26,7 +26,8 @@ round_by_parts i g a b c d l0 l1 l2 l3 l4 one two three four =
     (adds_after frames_drawn l0 l1 l2 (called g) a b one two) three) four
 
 -- one round more
-pub rounds-more : (i left next : ℕ) (g : Lcg) → left ≡ next + 1 → rounds i left g ≡ (round i g).0 ++ rounds (i + 1) next (round i g).1
+pub rounds-more : (i left next : ℕ) (g : Lcg) → left ≡ next + 1
+    → rounds i left g ≡ (round i g).0 ++ rounds (i + 1) next (round i g).1
 rounds-more i left next g more =
     let one : left ≡ suc next = omega arith in
     ap (λ (n : ℕ). rounds i n g) one

@@ -1,5 +1,5 @@
 -- One delivery more, and one closing round more.
-use Rattle.std.proofs.Common.{ℕ, ◌+◌, ◌≡◌, suc, [], ◌∷◌, ◌++◌, length, arith, ap, refl}
+use Rattle.std.proofs.Common.{ℕ, ◌+◌, ◌*◌, ◌≡◌, zero, suc, [], ◌∷◌, ◌++◌, length, length-append, arith, ap, refl}
 use Rattle.cl_types.specs.declared.schedule.Event.TheVariants as event
 use Rattle.storm_gen.specs.Generated.{deliveries, settle, settles}
 
@@ -21,3 +21,12 @@ no_settles = refl
 pub length-settle : length settle ≡ 13
 unfolding settle
 length-settle = refl
+
+-- each closing round has 13 events
+pub length-settles : (n : ℕ) → length (settles n) ≡ 13 * n
+unfolding settles
+length-settles zero = omega arith
+length-settles (suc n) =
+    let rest : length (settles n) ≡ 13 * n = length-settles n in
+    let first : length settle ≡ 13 = length-settle in
+    rw length-append (omega arith)

@@ -42,8 +42,10 @@ choice g =
     let kind : Drawn ℕ = draw 8 client.1 in
     let page : Drawn ℕ = draw 136 kind.1 in
     let offset : Drawn ℕ = draw 504 page.1 in
-    let len : Drawn ℕ = draw 64 offset.1 in
-    (record { client = record { 0 = 1 + client.0 }; kind = kind.0; addr = address_of (1 + page.0) (8 * offset.0); len = 1 + len.0 }, len.1)
+    let len : Drawn ℕ = draw 64 offset.1 in (
+      record { client = record { 0 = 1 + client.0 }; kind = kind.0; addr = address_of (1 + page.0) (8 * offset.0); len = 1 + len.0 },
+      len.1,
+    )
 
 -- a Write of bytes of one drawn value
 abbrev pub write_drawn : Choice → Drawn ℕ → Drawn CallText
@@ -115,7 +117,8 @@ rounds i (suc left) g = let drawn : Drawn (List Event) = round i g in drawn.0 ++
 -- the client allocates 64 pages, and both frames are delivered
 abbrev pub allocates : ℕ → List Event
 allocates client =
-    event.Call (record { 0 = client }) (call.Alloc 64 ReadWrite) ∷ event.Poll (record { 0 = client }) ∷ event.DeliverNext ∷ event.DeliverNext ∷ []
+    event.Call (record { 0 = client }) (call.Alloc 64 ReadWrite) ∷ event.Poll (record { 0 = client })
+    ∷ event.DeliverNext ∷ event.DeliverNext ∷ []
 
 -- the next frame is delivered so many times
 abbrev pub deliveries : ℕ → List Event

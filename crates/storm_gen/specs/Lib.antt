@@ -1,4 +1,5 @@
 pub mod Generated
 pub mod Numbering
 pub mod Drawing
+pub mod Suitable
 pub mod SummaryTexts

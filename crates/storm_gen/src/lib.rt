@@ -8,6 +8,7 @@
 mod call;
 mod choice;
 mod draws;
+pub mod laws;
 mod limits;
 mod lines;
 mod node;

@@ -26,7 +26,8 @@ loop-i-preserved c =
     let more : left ≡ next + 1 = omega arith in
     let added : Adds c.loop-i.lines (round i g) c.round.new.lines c.round.new.rng = c.in_ok-round.ensures in
     let few : length (round i g).0 ≤ 8 = length-round i g in
-    let longer : length (c.loop-i.lines ++ (round i g).0) ≡ length c.loop-i.lines + length (round i g).0 = length-append c.loop-i.lines (round i g).0 in
+    let longer : length (c.loop-i.lines ++ (round i g).0) ≡ length c.loop-i.lines + length (round i g).0
+    = length-append c.loop-i.lines (round i g).0 in
     let room : length c.loop-i.lines + 8 * left ≤ MOST_EVENTS = c.loop-i.invariant.room in
     let same : length c.round.new.lines ≡ length (c.loop-i.lines ++ (round i g).0) = ap length added.events in
     record {

@@ -13,6 +13,7 @@ settle_all-requires c =
     let all : c.allocate_all.new.lines ≡ first
     = c.in_ok-allocate_all.ensures ∙ ap (λ (lines : List Event). lines ++ first) c.create-lines.ensures in
     let before : length c.allocate_all.new.lines ≡ 16 = ap length all in
-    let longer : length (c.allocate_all.new.lines ++ drawn) ≡ length c.allocate_all.new.lines + length drawn = length-append c.allocate_all.new.lines drawn in
+    let longer : length (c.allocate_all.new.lines ++ drawn) ≡ length c.allocate_all.new.lines + length drawn
+    = length-append c.allocate_all.new.lines drawn in
     let same : length c.rounds.new.lines ≡ length (c.allocate_all.new.lines ++ drawn) = ap length c.in_ok-rounds.ensures in
     omega arith

@@ -10,7 +10,8 @@ loop-preserved c =
     let left = c.args.count - c.loop.counter in
     let next = c.args.count - (c.loop.counter + 1) in
     let more : left ≡ next + 1 = omega arith in
-    let longer : length (c.loop.lines ++ event.DeliverNext ∷ []) ≡ length c.loop.lines + 1 = length-append c.loop.lines (event.DeliverNext ∷ []) in
+    let longer : length (c.loop.lines ++ event.DeliverNext ∷ []) ≡ length c.loop.lines + 1
+    = length-append c.loop.lines (event.DeliverNext ∷ []) in
     record {
       events = rest_after c.loop.lines c.push.new.self (event.DeliverNext ∷ []) (deliveries left) (deliveries next) _
           c.in_ok-push.ensures (deliveries-more left next more) c.loop.invariant.events;

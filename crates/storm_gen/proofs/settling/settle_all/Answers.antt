@@ -10,7 +10,8 @@ loop-preserved c =
     let left = 64 - c.loop.counter in
     let next = 64 - (c.loop.counter + 1) in
     let more : left ≡ next + 1 = omega arith in
-    let longer : length (c.loop.lines ++ settle) ≡ length c.loop.lines + length settle = length-append c.loop.lines settle in
+    let longer : length (c.loop.lines ++ settle) ≡ length c.loop.lines + length settle
+    = length-append c.loop.lines settle in
     let thirteen : length settle ≡ 13 = length-settle in
     record {
       events = rest_after c.loop.lines c.settle.new.lines settle (settles left) (settles next) _
