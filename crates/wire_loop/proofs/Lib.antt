@@ -1,0 +1,4 @@
+mod ClockLemmas
+mod RanLemmas
+mod AnswerLemmas
+mod TurnLemmas

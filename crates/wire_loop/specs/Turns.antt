@@ -1,0 +1,77 @@
+-- What one turn of serving does. No public clause cites this module.
+use Rattle.std.specs.Prelude.{◌≡◌, ℕ, ◌+◌, Bool, true, false, List, ◌++◌, Option, map}
+use Rattle.cl_outside.specs.Counts.{LastFailed, NoneFailed}
+use Rattle.cl_outside.specs.Told.{Added}
+use Rattle.cl_outside.specs.Wire.{Message}
+use Rattle.cl_outside.specs.declared.faults.Faults.{Faults}
+use Rattle.cl_outside.specs.declared.wire.Peer.{Peer}
+use Rattle.node_model.specs.Handling.{latest}
+use Rattle.node_model.specs.Nodes.{NodeState, items_read}
+use Rattle.wire_loop.specs.Outside.{ClockAnswers, Received}
+use Rattle.wire_loop.specs.Serving.{Serving, answers, turn}
+use Rattle.node_core.specs.Keeping.{KeptNode}
+use Rattle.wire_loop.specs.Serves.{GaveOne, IsTold, Told, message_of}
+use Rattle.wire_loop.specs.declared.serving.TurnEnd.{TurnEnd}
+use Rattle.wire_loop.specs.declared.serving.TurnEnd.TheVariants as turn_end
+
+-- the wire failed exactly once, in its last call, where the turn ended so, and else in no call
+abbrev pub CountsTurn : Faults → Faults → TurnEnd → Type 0
+CountsTurn before now turn_end.Failed = LastFailed before now
+CountsTurn before now other = NoneFailed before now
+
+-- the wire failed in this turn
+abbrev pub fails : TurnEnd → Bool
+fails turn_end.Failed = true
+fails other = false
+
+-- a datagram came in this turn
+abbrev pub HasCome : TurnEnd → Type 0
+HasCome turn_end.Idle = ⊥
+HasCome other = Unit {0}
+
+-- the datagrams that were served, after a turn
+abbrev pub served_by : TurnEnd → ℕ → ℕ
+served_by turn_end.Served n = n + 1
+served_by other n = n
+
+-- the turns in a row in which nothing came, after a turn
+abbrev pub idles_by : TurnEnd → ℕ → ℕ
+idles_by turn_end.Served n = 0
+idles_by turn_end.Idle n = n + 1
+idles_by turn_end.Failed n = n
+
+-- a node that is served
+abbrev pub serving : NodeState → (last : ℕ) → ClockAnswers → List Bool → List (Peer × List ℕ) → (served idles : ℕ) → Bool
+  → Serving Peer
+serving node last clock sendings sent served idles failed = record {
+  node = node;
+  last = last;
+  clock = clock;
+  sendings = sendings;
+  sent = sent;
+  served = served;
+  idles = idles;
+  failed = failed;
+}
+
+-- a datagram was answered: some sendings came of it, and whether each went through
+pub record Answers (old new : NodeState) (before after : Option (List Message)) (from : Peer) (now : ℕ) (bytes : List ℕ)
+  (how : TurnEnd) : Type 0 where
+  pub sendings : List Bool
+  pub sent : List (Peer × List ℕ)
+  pub messages : Added (map message_of sent) before after
+  pub holds : (clock : ClockAnswers) (more : List Bool) (others : List (Peer × List ℕ)) (served idles : ℕ)
+      → answers latest from now (items_read bytes) (serving old now clock (sendings ++ more) others served idles false)
+      ≡ serving new now clock more (others ++ sent) served idles (fails how)
+
+-- the turn is the definition's, over what wire and clock gave
+pub record Turns (old new : KeptNode) (before after : Told) (how : TurnEnd) : Type 0 where
+  pub received : Received Peer
+  pub sendings : List Bool
+  pub sent : List (Peer × List ℕ)
+  pub gave : GaveOne received before.coming after.coming
+  pub messages : Added (map message_of sent) before.sent after.sent
+  pub holds : (clock : ClockAnswers) → IsTold clock after.moments → (first : ClockAnswers) × IsTold first before.moments
+      × ((more : List Bool) (others : List (Peer × List ℕ)) (served idles : ℕ)
+      → turn latest (serving old.node old.last first (sendings ++ more) others served idles false) received
+      ≡ serving new.node new.last clock more (others ++ sent) (served_by how served) (idles_by how idles) (fails how))

@@ -1,0 +1,134 @@
+//! Serving a node.
+
+ghost use Rattle.std.specs.Prelude.{◌≡◌, ◌≤◌, length};
+ghost use Rattle.cl_types.specs.declared.limits.TheConstants.{FRAME_ROOM};
+ghost use Rattle.wire_loop.specs.Serves.{CountsServe, Serves, told_of};
+ghost use Rattle.wire_loop.specs.Turns.{Answers, CountsTurn, HasCome, Turns};
+
+use cl_outside::{Clock, Peer, Recv, Sent, Wire};
+use cl_types::limits::FRAME_ROOM;
+use node_core::{Node, Outcome};
+
+/// Why serving a node ended.
+#[derive(Clone, Copy, Debug, PartialEq, Eq)]
+pub enum ServeEnd {
+    /// As many datagrams were served as were asked for.
+    Frames,
+    /// Nothing came in so many turns in a row. `frames` datagrams were served.
+    Idles { frames: u32 },
+    /// A receive or a send failed. `frames` datagrams were served.
+    WireFault { frames: u32 },
+}
+
+/// How a turn ended.
+#[derive(Clone, Copy, Debug, PartialEq, Eq)]
+pub enum TurnEnd {
+    /// A datagram was served.
+    Served,
+    /// Nothing came.
+    Idle,
+    /// The wire failed.
+    Failed,
+}
+
+/// Gives a datagram to the node at the time `now`, in ticks, and sends its reply back.
+fn answer<W: Wire>(
+    node: &mut Node,
+    wire: &mut W,
+    now: u64,
+    from: Peer,
+    bytes: &[u8],
+    out: &mut [u8],
+) -> TurnEnd
+    requires later { node.old.last ≤ now }
+    requires room { length out.old ≡ FRAME_ROOM }
+    ensures answers { Answers node.old.node node.new.node (W.sent wire.old) (W.sent wire.new)
+        from now bytes.now result }
+    ensures come { HasCome result }
+    ensures last { node.new.last ≡ now }
+    ensures coming { W.coming wire.new ≡ W.coming wire.old }
+    ensures counts { CountsTurn (W.faults wire.old) (W.faults wire.new) result }
+    ensures bind { W.last_bind wire.new ≡ W.last_bind wire.old }
+    ensures size { length out.new ≡ FRAME_ROOM }
+{
+    match node.handle(now, bytes, out) {
+        Outcome::Replied {
+            len,
+            how: _,
+            status: _,
+        } => match wire.send(from, &out[..len]) {
+            Sent::Sent => TurnEnd::Served,
+            Sent::Failed => TurnEnd::Failed,
+        },
+        Outcome::Busy { oldest: _, now: _ } => TurnEnd::Served,
+        Outcome::Bad(_fault) => TurnEnd::Served,
+    }
+}
+
+/// Receives once, and serves what came.
+fn turn<W: Wire, C: Clock>(
+    node: &mut Node,
+    wire: &mut W,
+    clock: &mut C,
+    frame: &mut [u8],
+    out: &mut [u8],
+) -> TurnEnd
+    requires frame_room { length frame.old ≡ FRAME_ROOM }
+    requires out_room { length out.old ≡ FRAME_ROOM }
+    ensures turns { Turns node.old node.new
+        (told_of (W.coming wire.old) (W.sent wire.old) (C.moments clock.old))
+        (told_of (W.coming wire.new) (W.sent wire.new) (C.moments clock.new))
+        result }
+    ensures counts { CountsTurn (W.faults wire.old) (W.faults wire.new) result }
+    ensures bind { W.last_bind wire.new ≡ W.last_bind wire.old }
+    ensures frame_size { length frame.new ≡ FRAME_ROOM }
+    ensures out_size { length out.new ≡ FRAME_ROOM }
+{
+    match wire.recv(frame) {
+        Recv::Got { len, from } => {
+            let now = clock.now().max(node.last());
+            answer(node, wire, now, from, &frame[..len], out)
+        }
+        Recv::Idle => TurnEnd::Idle,
+        Recv::Failed => TurnEnd::Failed,
+    }
+}
+
+/// Serves a node until `frames` datagrams were served, nothing came in `idles` turns in a row, or the wire failed.
+/// Each turn receives once; a datagram is given to the node, and its reply is sent to where it came from. It takes no
+/// memory.
+pub fn serve<W: Wire, C: Clock>(
+    node: &mut Node,
+    wire: &mut W,
+    clock: &mut C,
+    frames: u32,
+    idles: u32,
+) -> ServeEnd
+    requires frames { 1 ≤ frames }
+    requires idles { 1 ≤ idles }
+    ensures serves { Serves frames idles node.old node.new
+        (told_of (W.coming wire.old) (W.sent wire.old) (C.moments clock.old))
+        (told_of (W.coming wire.new) (W.sent wire.new) (C.moments clock.new))
+        result }
+    ensures counts { CountsServe (W.faults wire.old) (W.faults wire.new) result }
+    ensures bind { W.last_bind wire.new ≡ W.last_bind wire.old }
+{
+    let mut frame = [0u8; FRAME_ROOM];
+    let mut out = [0u8; FRAME_ROOM];
+    let mut served = 0;
+    let mut idle = 0;
+    while served < frames && idle < idles {
+        match turn(node, wire, clock, &mut frame, &mut out) {
+            TurnEnd::Served => {
+                served += 1;
+                idle = 0;
+            }
+            TurnEnd::Idle => idle += 1,
+            TurnEnd::Failed => return ServeEnd::WireFault { frames: served },
+        }
+    }
+    if served == frames {
+        return ServeEnd::Frames;
+    }
+    ServeEnd::Idles { frames: served }
+}
