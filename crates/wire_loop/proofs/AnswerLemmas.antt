@@ -1,16 +1,15 @@
 -- What an outcome of a datagram is of the definition of serving.
-use Rattle.std.proofs.Common.{◌≡◌, ◌≤◌, ℕ, Bool, true, false, List, [], ◌∷◌, ◌++◌, take, Option, Some, None, refl, sym, ap, ◌∙◌, subst}
+use Rattle.std.proofs.Common.{◌≡◌, ◌≤◌, ℕ, Bool, true, false, List, [], ◌∷◌, ◌++◌, take, Option, Some, None, sym}
 use Rattle.std.proofs.lemmas.List.{append-nil}
 use Rattle.cl_outside.specs.declared.wire.Peer.{Peer}
 use Rattle.cl_types.specs.declared.frame.BadFrame.{BadFrame}
 use Rattle.cl_types.specs.declared.frame.How.{How}
 use Rattle.frame_model.specs.Frames.{Item, head_in, request_in, request_fault}
 use Rattle.node_model.specs.Handling.{latest}
-use Rattle.node_model.specs.Nodes.{NodeState, NodeStep, ItemAnswer, Gives, IsBusy, answer_judged, items_judged, items_read, node_after, node_answer, node_given, keeping, step_item}
+use Rattle.node_model.specs.Nodes.{NodeState, NodeStep, ItemAnswer, Gives, IsBusy, answer_judged, items_judged, items_read, node_after, node_answer, node_given, step_item}
 use Rattle.wire_loop.specs.Outside.{ClockAnswers}
-use Rattle.wire_loop.specs.Serving.{Serving, answers, said_back}
+use Rattle.wire_loop.specs.Serving.{answers, said_back}
 use Rattle.node_core.specs.Keeping.{Tells, TellsSaid}
-use Rattle.node_core.specs.declared.outcome.Outcome.{Outcome}
 use Rattle.node_core.specs.declared.outcome.Outcome.TheVariants as outcome
 use Rattle.cl_types.specs.declared.limits.TheConstants.{REPLY_BYTES}
 use Rattle.wire_loop.specs.Turns.{serving}

@@ -2,3 +2,4 @@ mod ClockLemmas
 mod RanLemmas
 mod AnswerLemmas
 mod TurnLemmas
+mod AlikeLemmas

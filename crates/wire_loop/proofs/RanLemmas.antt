@@ -1,5 +1,5 @@
 -- Turns one after another, and their end.
-use Rattle.std.proofs.Common.{◌≡◌, ℕ, ◌+◌, ◌<◌, ◌≤◌, Bool, true, false, leb, List, [], ◌∷◌, ◌++◌, Option, Some, None, map, refl, sym, ap, ◌∙◌, subst, ◌||◌}
+use Rattle.std.proofs.Common.{◌≡◌, ℕ, ◌<◌, Bool, true, false, leb, List, [], ◌∷◌, ◌++◌, Option, Some, None, map, refl, sym, ap, ◌∙◌, subst, ◌||◌}
 use Rattle.std.proofs.lemmas.Bool.{lt-leb}
 use Rattle.std.proofs.lemmas.List.{append-nil, append_assoc, map-append}
 use Rattle.std.specs.Option.{option_map}
@@ -11,6 +11,7 @@ use Rattle.wire_loop.specs.Outside.{ClockAnswers, Received}
 use Rattle.wire_loop.specs.Serving.{Serving, Turned, turn, served_over, is_over, serve_stop}
 use Rattle.node_core.specs.Keeping.{KeptNode}
 use Rattle.node_model.specs.Handling.{latest}
+use Rattle.node_model.specs.Nodes.{Record}
 use Rattle.wire_loop.specs.Ran.{Ran}
 use Rattle.wire_loop.specs.Serves.{Gave, GaveOne, IsTold, Serves, Told, clock_of, end_of, message_of}
 use Rattle.wire_loop.specs.Turns.{Turns, fails, idles_by, served_by, serving}
@@ -123,7 +124,10 @@ module _ (frames idles : ℕ) where
         }
 
 -- such turns are the run that the definition has for what was received
-pub turned_so : (frames idles : ℕ) (s e : Serving Peer) (rs : List (Received Peer)) → Turned latest frames idles s rs e → e ≡ served_over latest frames idles s rs
-turned_so frames idles s e [] turned = turned.0 ∙ sym (on_true (is_over frames idles s) turned.1 s (record s { idles = idles }))
-turned_so frames idles s e (r ∷ rs) turned =
-    turned_so frames idles (turn latest s r) e rs turned.1 ∙ sym (on_false (is_over frames idles s) turned.0 s (served_over latest frames idles (turn latest s r) rs))
+pub turned_so : (keep : ℕ → List Record → List Record) (frames idles : ℕ) (s e : Serving Peer) (rs : List (Received Peer))
+  → Turned keep frames idles s rs e → e ≡ served_over keep frames idles s rs
+turned_so keep frames idles s e [] turned =
+    turned.0 ∙ sym (on_true (is_over frames idles s) turned.1 s (record s { idles = idles }))
+turned_so keep frames idles s e (r ∷ rs) turned =
+    turned_so keep frames idles (turn keep s r) e rs turned.1
+    ∙ sym (on_false (is_over frames idles s) turned.0 s (served_over keep frames idles (turn keep s r) rs))

@@ -5,3 +5,4 @@ pub mod Printing
 pub mod Serves
 pub mod Turns
 pub mod Ran
+pub mod ServedAlike

@@ -1,6 +1,5 @@
 -- What a driven client prints, as text.
 use Rattle.std.specs.Prelude.{[], ◌∷◌, decimal, codes}
-use Rattle.cl_types.specs.declared.frame.IssueFault.TheVariants as fault
 use Rattle.texts.specs.Text.{Text, line_of}
 use Rattle.wire_loop.specs.Driving.{Printed, NotIssued, Answered}
 use Rattle.texts.specs.Texts.{answer_text, fault_text}

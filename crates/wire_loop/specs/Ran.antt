@@ -1,5 +1,5 @@
 -- Some turns of serving. No public clause cites this module.
-use Rattle.std.specs.Prelude.{◌≡◌, ℕ, Bool, false, List, [], ◌++◌, Option, map}
+use Rattle.std.specs.Prelude.{ℕ, Bool, false, List, [], ◌++◌, map}
 use Rattle.cl_outside.specs.Told.{Added}
 use Rattle.cl_outside.specs.declared.wire.Peer.{Peer}
 use Rattle.wire_loop.specs.Outside.{ClockAnswers, Received}

@@ -24,10 +24,10 @@ abbrev pub fails : TurnEnd → Bool
 fails turn_end.Failed = true
 fails other = false
 
--- a datagram came in this turn
-abbrev pub HasCome : TurnEnd → Type 0
-HasCome turn_end.Idle = ⊥
-HasCome other = Unit {0}
+-- a turn in which a datagram came may end so
+abbrev pub IsAfterDatagram : TurnEnd → Type 0
+IsAfterDatagram turn_end.Idle = ⊥
+IsAfterDatagram other = Unit {0}
 
 -- the datagrams that were served, after a turn
 abbrev pub served_by : TurnEnd → ℕ → ℕ

@@ -2,6 +2,7 @@
 //! decides nothing: it moves bytes, takes times and counts turns. The loop that drives a client is not written yet.
 #![tactic(auto)]
 
+pub mod laws;
 mod serving;
 
 pub use serving::{ServeEnd, serve};

@@ -3,7 +3,7 @@
 ghost use Rattle.std.specs.Prelude.{◌≡◌, ◌≤◌, length};
 ghost use Rattle.cl_types.specs.declared.limits.TheConstants.{FRAME_ROOM};
 ghost use Rattle.wire_loop.specs.Serves.{CountsServe, Serves, told_of};
-ghost use Rattle.wire_loop.specs.Turns.{Answers, CountsTurn, HasCome, Turns};
+ghost use Rattle.wire_loop.specs.Turns.{Answers, CountsTurn, IsAfterDatagram, Turns};
 
 use cl_outside::{Clock, Peer, Recv, Sent, Wire};
 use cl_types::limits::FRAME_ROOM;
@@ -44,7 +44,7 @@ fn answer<W: Wire>(
     requires room { length out.old ≡ FRAME_ROOM }
     ensures answers { Answers node.old.node node.new.node (W.sent wire.old) (W.sent wire.new)
         from now bytes.now result }
-    ensures come { HasCome result }
+    ensures came { IsAfterDatagram result }
     ensures last { node.new.last ≡ now }
     ensures coming { W.coming wire.new ≡ W.coming wire.old }
     ensures counts { CountsTurn (W.faults wire.old) (W.faults wire.new) result }

@@ -1,4 +1,4 @@
-use Rattle.std.proofs.Common.{rules, ◌≡◌, ◌≤◌, ℕ, List, [], ◌∷◌, ◌++◌, true, false, length, refl, sym, ap, ◌∙◌, subst, arith, take}
+use Rattle.std.proofs.Common.{rules, ◌≡◌, ◌≤◌, [], ◌∷◌, ◌++◌, true, false, length, sym, ◌∙◌, arith, take}
 use Rattle.std.proofs.lemmas.List.{length-take-le}
 use Rattle.cl_types.specs.declared.limits.TheConstants.{REPLY_BYTES}
 use Rattle.cl_types.specs.declared.limits.TheConstants.{FRAME_ROOM}

@@ -1,8 +1,6 @@
-use Rattle.std.proofs.Common.{rules, ◌≡◌, ◌≤◌, ◌<◌, ℕ, List, [], ◌∷◌, ◌+◌, true, false, refl, sym, ap, ◌∙◌, subst, arith, leb}
+use Rattle.std.proofs.Common.{rules, ◌≡◌, ◌≤◌, ◌<◌, true, false, refl, ◌∙◌, leb}
 use Rattle.std.proofs.lemmas.Bool.{le-leb, lt-leb}
-use Rattle.wire_loop.specs.Ran.{Ran}
 use Rattle.wire_loop.specs.declared.serving.TurnEnd.TheVariants as turn_end
-use Rattle.wire_loop.specs.Turns.{Turns}
 use Rattle.wire_loop.proofs.RanLemmas.{ran_none, ran_more, ran_to_end}
 use Rattle.wire_loop.proofs.serving.serve.Goals.{then-loop-served-test+else-idle-idles, else-loop-served-test}
 use Rattle.wire_loop.proofs.serving.serve.Goals as goal

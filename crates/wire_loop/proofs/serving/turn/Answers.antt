@@ -1,12 +1,12 @@
-use Rattle.std.proofs.Common.{rules, ◌≡◌, ℕ, List, [], ◌∷◌, ◌++◌, true, false, length, map, max, take, refl, sym, ap, ◌∙◌, subst, ◌+◌}
+use Rattle.std.proofs.Common.{rules, ◌≡◌, [], ◌∷◌, ◌++◌, true, false, length, map, max, take, sym, ap, ◌∙◌, subst, ◌+◌}
 use Rattle.std.proofs.lemmas.List.{append-nil}
 use Rattle.cl_types.specs.declared.limits.TheConstants.{FRAME_ROOM}
-use Rattle.wire_loop.specs.Outside.{Datagram, NothingCame, ReceivingFailed, moment_of, after_answer, answer_of}
+use Rattle.wire_loop.specs.Outside.{Datagram, NothingCame, ReceivingFailed, moment_of}
 use Rattle.cl_outside.specs.Told.{Added, Took}
 use Rattle.wire_loop.specs.Serves.{IsTold, message_of}
 use Rattle.wire_loop.specs.Turns.{fails, idles_by, served_by, serving}
 use Rattle.wire_loop.proofs.ClockLemmas.{clock_before}
-use Rattle.wire_loop.proofs.RanLemmas.{added_none, added_same}
+use Rattle.wire_loop.proofs.RanLemmas.{added_same}
 use Rattle.wire_loop.proofs.TurnLemmas.{turned}
 use Rattle.wire_loop.proofs.serving.turn.Goals as goal
 
@@ -28,7 +28,7 @@ returns-in-Got-clause-turns g c =
             b.told,
             λ more others served idles.
                 turned c.args.node.now.node c.answer.new.node.node c.args.node.now.last c.max-now.result c.in-Got.from bytes b.first clock (a.sendings ++ more) more others (others ++ a.sent) served idles
-                c.answer.result c.answer.ensures.come at b.after (a.holds clock more others served idles)
+                c.answer.result c.answer.ensures.came at b.after (a.holds clock more others served idles)
                 ∙ (λ j. serving c.answer.new.node.node (sym c.answer.ensures.last j) clock more (others ++ a.sent) (served_by c.answer.result served) (idles_by c.answer.result idles) (fails c.answer.result)),
           );
     }
