@@ -32,13 +32,14 @@ by_answer from i (Says said) s = by_said from i said s
 
 module _ (keep : ℕ → List Record → List Record) where
   answers_so : (from : Peer) (t : ℕ) (bytes : List ℕ) (s : Serving Peer) → s.failed ≡ false
-    → answers keep from t (items_read bytes) s
-    ≡ by_answer from (item_in bytes) (node_answer keep s.node t bytes) (having (node_given keep s.node t bytes) s)
+      → answers keep from t (items_read bytes) s
+      ≡ by_answer from (item_in bytes) (node_answer keep s.node t bytes) (having (node_given keep s.node t bytes) s)
   unfolding having item_in by_said by_answer
   answers_so from t bytes s good = go (request_fault bytes)
     where
       go : (o : Option BadFrame) → answers keep from t (items_judged bytes o) s
-        ≡ by_answer from (item_in bytes) (answer_judged keep s.node t bytes o) (having (node_after keep s.node t (items_judged bytes o)) s)
+          ≡ by_answer from (item_in bytes) (answer_judged keep s.node t bytes o) (having (node_after keep s.node t
+          (items_judged bytes o)) s)
       go (Some fault) = refl
       go None =
           let i : Item = record { head = head_in bytes; request = request_in bytes } in
@@ -47,19 +48,19 @@ module _ (keep : ℕ → List Record → List Record) where
 
 -- ---- the node stands apart from all else
 with_reply_having : (to : Peer) (bytes : List ℕ) (sent : Bool) (n : NodeState) (s : Serving Peer)
-  → with_reply to bytes sent (having n s) ≡ having n (with_reply to bytes sent s)
+    → with_reply to bytes sent (having n s) ≡ having n (with_reply to bytes sent s)
 unfolding having
 with_reply_having to bytes true n s = refl
 with_reply_having to bytes false n s = refl
 
 said_back_having : (from : Peer) (i : Item) (said : ItemAnswer) (n : NodeState) (s : Serving Peer)
-  → said_back from i said (having n s) ≡ having n (said_back from i said s)
+    → said_back from i said (having n s) ≡ having n (said_back from i said s)
 unfolding having
 said_back_having from i (Gives how reply) n s = with_reply_having from _ (goes_through s.sendings) n s
 said_back_having from i (IsBusy oldest now) n s = refl
 
 by_answer_having : (from : Peer) (i : Item) (a : NodeAnswer) (n : NodeState) (s : Serving Peer)
-  → by_answer from i a (having n s) ≡ having n (by_answer from i a s)
+    → by_answer from i a (having n s) ≡ having n (by_answer from i a s)
 unfolding having by_said by_answer
 by_answer_having from i (Refuses fault) n s = refl
 by_answer_having from i (Says []) n s = refl
@@ -70,7 +71,7 @@ unfolding having
 counted_having n s = go s.failed
   where
     go : (b : Bool) → (if b then record s { node = n } else record s { node = n; served = s.served + 1; idles = 0 })
-      ≡ record (if b then s else record s { served = s.served + 1; idles = 0 }) { node = n }
+        ≡ record (if b then s else record s { served = s.served + 1; idles = 0 }) { node = n }
     go true = refl
     go false = refl
 
@@ -80,7 +81,8 @@ with_reply_last to bytes true s = refl
 with_reply_last to bytes false s = refl
 
 said_back_last : (from : Peer) (i : Item) (said : ItemAnswer) (s : Serving Peer) → (said_back from i said s).last ≡ s.last
-said_back_last from i (Gives how reply) s = with_reply_last from (reply_frame i.head (kind_of i.request) reply) (goes_through s.sendings) s
+said_back_last from i (Gives how reply) s = with_reply_last from (reply_frame i.head (kind_of i.request) reply)
+    (goes_through s.sendings) s
 said_back_last from i (IsBusy oldest now) s = refl
 
 by_answer_last : (from : Peer) (i : Item) (a : NodeAnswer) (s : Serving Peer) → (by_answer from i a s).last ≡ s.last
@@ -102,8 +104,8 @@ left_by : Peer → List ℕ → NodeAnswer → Serving Peer → Serving Peer
 left_by from bytes a s = counted (by_answer from (item_in bytes) a (at_moment (moment_of s.clock s.last) s))
 
 turned_by : (keep : ℕ → List Record → List Record) (from : Peer) (bytes : List ℕ) (s : Serving Peer) → s.failed ≡ false
-  → turn keep s (Datagram bytes from)
-  ≡ having (node_given keep s.node (moment_of s.clock s.last) bytes)
+    → turn keep s (Datagram bytes from)
+    ≡ having (node_given keep s.node (moment_of s.clock s.last) bytes)
     (left_by from bytes (node_answer keep s.node (moment_of s.clock s.last) bytes) s)
 unfolding left_by
 turned_by keep from bytes s good =
@@ -113,20 +115,21 @@ turned_by keep from bytes s good =
     ap counted (answers_so keep from t bytes (at_moment t s) good ∙ by_answer_having from (item_in bytes) a n (at_moment t s))
     ∙ counted_having n (by_answer from (item_in bytes) a (at_moment t s))
 
-left_last : (from : Peer) (bytes : List ℕ) (a : NodeAnswer) (s : Serving Peer) → (left_by from bytes a s).last ≡ moment_of s.clock s.last
+left_last : (from : Peer) (bytes : List ℕ) (a : NodeAnswer) (s : Serving Peer)
+    → (left_by from bytes a s).last ≡ moment_of s.clock s.last
 unfolding left_by
 left_last from bytes a s =
     counted_last _ ∙ by_answer_last from (item_in bytes) a (at_moment (moment_of s.clock s.last) s)
 
 turned_last : (from : Peer) (bytes : List ℕ) (s : Serving Peer) → s.failed ≡ false
-  → (turn latest s (Datagram bytes from)).last ≡ moment_of s.clock s.last
+    → (turn latest s (Datagram bytes from)).last ≡ moment_of s.clock s.last
 unfolding having
 turned_last from bytes s good =
     let a : NodeAnswer = node_answer latest s.node (moment_of s.clock s.last) bytes in
     ap (λ (z : Serving Peer). z.last) (turned_by latest from bytes s good) ∙ left_last from bytes a s
 
 left_having : (from : Peer) (bytes : List ℕ) (a : NodeAnswer) (n : NodeState) (s : Serving Peer)
-  → left_by from bytes a (having n s) ≡ having n (left_by from bytes a s)
+    → left_by from bytes a (having n s) ≡ having n (left_by from bytes a s)
 unfolding having left_by
 left_having from bytes a n s =
     let t : ℕ = moment_of s.clock s.last in
@@ -150,20 +153,27 @@ not_failed frames idles s going = go s.failed going
 module _ (frames idles : ℕ) where
   -- the two nodes answer all datagrams of the turns alike
   abbrev AnswerAlike : List (Received Peer) → Serving Peer → NodeState → Type 0
-  AnswerAlike rs s n = answers_to latest s.node (given_over frames idles s rs) ≡ answers_to keep_every n (given_over frames idles s rs)
+  AnswerAlike rs s n = answers_to latest s.node (given_over frames idles s rs) ≡ answers_to keep_every n
+      (given_over frames idles s rs)
 
   -- the runs of the two nodes differ in their nodes at most
   abbrev RunAlike : List (Received Peer) → Serving Peer → NodeState → Type 0
-  RunAlike rs s n = record (served_over keep_every frames idles (having n s) rs) { node = (served_over latest frames idles s rs).node }
-    ≡ served_over latest frames idles s rs
+  RunAlike rs s n = record (served_over keep_every frames idles (having n s) rs) {
+    node =
+        (served_over latest frames idles s rs).node;
+  }
+      ≡ served_over latest frames idles s rs
 
   -- one turn of both, where serving goes on
   turned_alike : (r : Received Peer) (rs : List (Received Peer)) (s : Serving Peer) (n : NodeState)
-    → ((s2 : Serving Peer) (m : NodeState) → AnswerAlike rs s2 m → RunAlike rs s2 m)
-    → is_over frames idles s ≡ false
-    → answers_to latest s.node (given_in s r ++ given_over frames idles (turn latest s r) rs)
+      → ((s2 : Serving Peer) (m : NodeState) → AnswerAlike rs s2 m → RunAlike rs s2 m)
+      → is_over frames idles s ≡ false
+      → answers_to latest s.node (given_in s r ++ given_over frames idles (turn latest s r) rs)
       ≡ answers_to keep_every n (given_in s r ++ given_over frames idles (turn latest s r) rs)
-    → record (served_over keep_every frames idles (turn keep_every (having n s) r) rs) { node = (served_over latest frames idles (turn latest s r) rs).node }
+      → record (served_over keep_every frames idles (turn keep_every (having n s) r) rs) {
+        node = (served_over latest frames idles
+            (turn latest s r) rs).node;
+      }
       ≡ served_over latest frames idles (turn latest s r) rs
   unfolding having
   turned_alike NothingCame rs s n rest going alike = rest (turn latest s NothingCame) n alike
@@ -179,14 +189,17 @@ module _ (frames idles : ℕ) where
       let m : NodeState = node_given keep_every n t bytes in
       let same : a ≡ b = same_first a b (answers_to latest k given) (answers_to keep_every m given) alike in
       let others : answers_to latest k given ≡ answers_to keep_every m given
-        = same_others a b (answers_to latest k given) (answers_to keep_every m given) alike in
+      = same_others a b (answers_to latest k given) (answers_to keep_every m given) alike in
       let first : s2 ≡ having k (left_by from bytes a s) = turned_by latest from bytes s good in
       let second : turn keep_every (having n s) (Datagram bytes from) ≡ having m s2
-        = turned_by keep_every from bytes (having n s) good
-          ∙ ap (having m) (left_having from bytes b n s)
-          ∙ ap (λ (x : NodeAnswer). having m (left_by from bytes x s)) (sym same)
-          ∙ ap (having m) (sym first) in
-      ap (λ (z : Serving Peer). record (served_over keep_every frames idles z rs) { node = (served_over latest frames idles s2 rs).node }) second
+      = turned_by keep_every from bytes (having n s) good
+      ∙ ap (having m) (left_having from bytes b n s)
+      ∙ ap (λ (x : NodeAnswer). having m (left_by from bytes x s)) (sym same)
+      ∙ ap (having m) (sym first) in
+      ap (λ (z : Serving Peer). record (served_over keep_every frames idles z rs) {
+        node =
+            (served_over latest frames idles s2 rs).node;
+      }) second
       ∙ rest s2 m (ap (λ (z : Serving Peer). answers_to latest z.node given) first ∙ others)
 
   same_run : (rs : List (Received Peer)) (s : Serving Peer) (n : NodeState) → AnswerAlike rs s n → RunAlike rs s n
@@ -194,25 +207,44 @@ module _ (frames idles : ℕ) where
   same_run [] s n alike = go (is_over frames idles s)
     where
       go : (b : Bool) → ◌≡◌ {A = Serving Peer}
-        (record (elim b as (λ z. Serving Peer) [ true ↦ having n s | false ↦ record (having n s) { idles = idles } ]) {
-          node = (elim b as (λ z. Serving Peer) [ true ↦ s | false ↦ record s { idles = idles } ]).node;
-        })
-        (elim b as (λ z. Serving Peer) [ true ↦ s | false ↦ record s { idles = idles } ])
+          (record (elim b as (λ z. Serving Peer) [ true ↦ having n s | false ↦ record (having n s) { idles = idles } ]) {
+            node = (elim b as (λ z. Serving Peer) [ true ↦ s | false ↦ record s { idles = idles } ]).node;
+          })
+          (elim b as (λ z. Serving Peer) [ true ↦ s | false ↦ record s { idles = idles } ])
       go true = refl
       go false = refl
   same_run (r ∷ rs) s n alike = go (is_over frames idles s) refl alike (turned_alike r rs s n (same_run rs))
     where
       go : (b : Bool) → is_over frames idles s ≡ b
-        → answers_to latest s.node (elim b as (λ z. List Given) [ true ↦ [] | false ↦ given_in s r ++ given_over frames idles (turn latest s r) rs ])
-          ≡ answers_to keep_every n (elim b as (λ z. List Given) [ true ↦ [] | false ↦ given_in s r ++ given_over frames idles (turn latest s r) rs ])
-        → (is_over frames idles s ≡ false
+          → answers_to latest s.node (elim b as (λ z. List Given) [
+            | true ↦ []
+            | false ↦ given_in s r ++ given_over frames idles
+                (turn latest s r) rs
+          ])
+          ≡ answers_to keep_every n (elim b as (λ z. List Given) [
+            | true ↦ []
+            | false ↦ given_in s r ++ given_over frames idles
+                (turn latest s r) rs
+          ])
+          → (is_over frames idles s ≡ false
           → answers_to latest s.node (given_in s r ++ given_over frames idles (turn latest s r) rs)
-            ≡ answers_to keep_every n (given_in s r ++ given_over frames idles (turn latest s r) rs)
-          → record (served_over keep_every frames idles (turn keep_every (having n s) r) rs) { node = (served_over latest frames idles (turn latest s r) rs).node }
-            ≡ served_over latest frames idles (turn latest s r) rs)
-        → ◌≡◌ {A = Serving Peer}
-          (record (elim b as (λ z. Serving Peer) [ true ↦ having n s | false ↦ served_over keep_every frames idles (turn keep_every (having n s) r) rs ]) {
-            node = (elim b as (λ z. Serving Peer) [ true ↦ s | false ↦ served_over latest frames idles (turn latest s r) rs ]).node;
+          ≡ answers_to keep_every n (given_in s r ++ given_over frames idles (turn latest s r) rs)
+          → record (served_over keep_every frames idles (turn keep_every (having n s) r) rs) {
+            node =
+                (served_over latest frames idles (turn latest s r) rs).node;
+          }
+          ≡ served_over latest frames idles (turn latest s r) rs)
+          → ◌≡◌ {A = Serving Peer}
+          (record (elim b as (λ z. Serving Peer) [
+            | true ↦ having n s
+            | false ↦ served_over keep_every frames idles
+                (turn keep_every (having n s) r) rs
+          ]) {
+            node = (elim b as (λ z. Serving Peer) [
+              | true ↦ s
+              | false ↦ served_over latest frames idles
+                  (turn latest s r) rs
+            ]).node;
           })
           (elim b as (λ z. Serving Peer) [ true ↦ s | false ↦ served_over latest frames idles (turn latest s r) rs ])
       go true is same more = refl
@@ -220,8 +252,8 @@ module _ (frames idles : ℕ) where
 
   -- the moments don't fall
   turned_in_time : (r : Received Peer) (rs : List (Received Peer)) (s : Serving Peer)
-    → AreInTime (turn latest s r).last (given_over frames idles (turn latest s r) rs)
-    → is_over frames idles s ≡ false → AreInTime s.last (given_in s r ++ given_over frames idles (turn latest s r) rs)
+      → AreInTime (turn latest s r).last (given_over frames idles (turn latest s r) rs)
+      → is_over frames idles s ≡ false → AreInTime s.last (given_in s r ++ given_over frames idles (turn latest s r) rs)
   turned_in_time NothingCame rs s rest going = rest
   turned_in_time ReceivingFailed rs s rest going = rest
   turned_in_time (Datagram bytes from) rs s rest going =
@@ -234,8 +266,12 @@ module _ (frames idles : ℕ) where
   in_time (r ∷ rs) s = go (is_over frames idles s) refl (turned_in_time r rs s (in_time rs (turn latest s r)))
     where
       go : (b : Bool) → is_over frames idles s ≡ b
-        → (is_over frames idles s ≡ false → AreInTime s.last (given_in s r ++ given_over frames idles (turn latest s r) rs))
-        → AreInTime s.last (elim b as (λ z. List Given) [ true ↦ [] | false ↦ given_in s r ++ given_over frames idles (turn latest s r) rs ])
+          → (is_over frames idles s ≡ false → AreInTime s.last (given_in s r ++ given_over frames idles (turn latest s r) rs))
+          → AreInTime s.last (elim b as (λ z. List Given) [
+            | true ↦ []
+            | false ↦ given_in s r ++ given_over frames idles
+                (turn latest s r) rs
+          ])
       go true is more = tt
       go false is more = more is
 
@@ -244,4 +280,4 @@ unfolding having
 law_of_serving frames idles node last clock sendings receives set span =
     let start : Serving Peer = serving_of node last clock sendings in
     same_run frames idles receives start node
-      (law_of_span node last (given_over frames idles start receives) set (in_time frames idles receives start) span).0
+    (law_of_span node last (given_over frames idles start receives) set (in_time frames idles receives start) span).0

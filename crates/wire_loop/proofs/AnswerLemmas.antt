@@ -14,7 +14,8 @@ use Rattle.node_core.specs.declared.outcome.Outcome.TheVariants as outcome
 use Rattle.cl_types.specs.declared.limits.TheConstants.{REPLY_BYTES}
 use Rattle.wire_loop.specs.Turns.{serving}
 
-module _ (from : Peer) (now : ℕ) (clock : ClockAnswers) (more : List Bool) (others : List (Peer × List ℕ)) (served idles : ℕ) where
+module _ (from : Peer) (now : ℕ) (clock : ClockAnswers) (more : List Bool) (others : List (Peer × List ℕ))
+    (served idles : ℕ) where
   -- ---- a reply
   module _ (len : ℕ) (how : How) (status : ℕ) (out : List ℕ) where
     -- it was sent
@@ -38,7 +39,8 @@ module _ (from : Peer) (now : ℕ) (clock : ClockAnswers) (more : List Bool) (ot
       answers_sent told = go (request_fault frame) told where
         go : (o : Option BadFrame) → Tells frame (answer_judged latest n now frame o) (outcome.Replied len how status) out
             → answers latest from now (items_judged frame o) (serving n now clock (true ∷ more) others served idles false)
-            ≡ serving (node_after latest n now (items_judged frame o)) now clock more (others ++ (from, take len out) ∷ []) served idles false
+            ≡ serving (node_after latest n now (items_judged frame o)) now clock more (others ++
+            (from, take len out) ∷ []) served idles false
         go (Some fault) told = absurd told
         go None told =
             let i : Item = record { head = head_in frame; request = request_in frame } in
@@ -68,18 +70,21 @@ module _ (from : Peer) (now : ℕ) (clock : ClockAnswers) (more : List Bool) (ot
           → answers latest from now (items_judged frame o) (serving n now clock more others served idles false)
           ≡ serving (node_after latest n now (items_judged frame o)) now clock more (others ++ []) served idles false
       go (Some found) told = λ j. serving n now clock more (sym (append-nil others) j) served idles false
-      go None told = absurd_said (step_item latest n now (record { head = head_in frame; request = request_in frame })).said told where
-        absurd_said : (x : ItemAnswer) → TellsSaid (record { head = head_in frame; request = request_in frame }) x (outcome.Bad fault) out
-            → answers latest from now (items_judged frame None) (serving n now clock more others served idles false)
-            ≡ serving (node_after latest n now (items_judged frame None)) now clock more (others ++ []) served idles false
-        absurd_said (Gives h reply) told = absurd told
-        absurd_said (IsBusy oldest at) told = absurd told
+      go None told = absurd_said (step_item latest n now
+          (record { head = head_in frame; request = request_in frame })).said told where
+            absurd_said : (x : ItemAnswer) → TellsSaid (record { head = head_in frame; request = request_in frame }) x
+                (outcome.Bad fault) out
+                → answers latest from now (items_judged frame None) (serving n now clock more others served idles false)
+                ≡ serving (node_after latest n now (items_judged frame None)) now clock more (others ++ []) served idles false
+            absurd_said (Gives h reply) told = absurd told
+            absurd_said (IsBusy oldest at) told = absurd told
 
     said_busy : (item : Item) (x : ItemAnswer) (m : NodeState) (oldest at : ℕ) → TellsSaid item x (outcome.Busy oldest at) out
         → said_back from item x (serving m now clock more others served idles false)
         ≡ serving m now clock more (others ++ []) served idles false
     said_busy item (Gives h reply) m oldest at told = absurd told
-    said_busy item (IsBusy since moment) m oldest at told = λ j. serving m now clock more (sym (append-nil others) j) served idles false
+    said_busy item (IsBusy since moment) m oldest at told = λ j. serving m now clock more (sym
+        (append-nil others) j) served idles false
 
     pub answers_busy : (oldest at : ℕ) → Tells frame (node_answer latest n now frame) (outcome.Busy oldest at) out
         → answers latest from now (items_read frame) (serving n now clock more others served idles false)
@@ -95,14 +100,16 @@ module _ (from : Peer) (now : ℕ) (clock : ClockAnswers) (more : List Bool) (ot
           said_busy i s.said s.node oldest at told
 
 -- a reply fits the buffer
-short_said : (item : Item) (x : ItemAnswer) (len : ℕ) (how : How) (status : ℕ) (out : List ℕ) → TellsSaid item x (outcome.Replied len how status) out → len ≤ REPLY_BYTES
+short_said : (item : Item) (x : ItemAnswer) (len : ℕ) (how : How) (status : ℕ) (out : List ℕ)
+    → TellsSaid item x (outcome.Replied len how status) out → len ≤ REPLY_BYTES
 short_said item (Gives h reply) len how status out told = told.2
 short_said item (IsBusy oldest at) len how status out told = absurd told
 
 pub reply_is_short : (n : NodeState) (now : ℕ) (frame : List ℕ) (len : ℕ) (how : How) (status : ℕ) (out : List ℕ)
     → Tells frame (node_answer latest n now frame) (outcome.Replied len how status) out → len ≤ REPLY_BYTES
 reply_is_short n now frame len how status out told = go (request_fault frame) told where
-  go : (o : Option BadFrame) → Tells frame (answer_judged latest n now frame o) (outcome.Replied len how status) out → len ≤ REPLY_BYTES
+  go : (o : Option BadFrame) → Tells frame (answer_judged latest n now frame o) (outcome.Replied len how status) out
+      → len ≤ REPLY_BYTES
   go (Some fault) told = absurd told
   go None told =
       let i : Item = record { head = head_in frame; request = request_in frame } in

@@ -40,7 +40,8 @@ added_both xs ys None b c first second = second ∙ ap (λ o. option_map (λ old
 added_both xs ys (Some zs) b c first second =
     second ∙ ap (λ o. option_map (λ old. old ++ ys) o) first ∙ ap Some (append_assoc zs xs ys)
 
-gave_more : (rs : List (Received Peer)) (r : Received Peer) (a b c : Option (List Message)) → Gave rs a b → GaveOne r b c → Gave (rs ++ r ∷ []) a c
+gave_more : (rs : List (Received Peer)) (r : Received Peer) (a b c : Option (List Message)) → Gave rs a b → GaveOne r b c
+    → Gave (rs ++ r ∷ []) a c
 gave_more [] r a b c first second = (c, subst (λ o. GaveOne r o c) first second, refl)
 gave_more (s ∷ rs) r a b c first second = (first.0, first.1, gave_more rs r first.0 b c first.2 second)
 
@@ -60,7 +61,8 @@ module _ (frames idles : ℕ) where
   }
 
   module _ (old now then : KeptNode) (before between after : Told) (served idle : ℕ) (how : TurnEnd) where
-    pub ran_more : served < frames → idle < idles → Ran frames idles old now before between served idle false → Turns now then between after how
+    pub ran_more : served < frames → idle < idles → Ran frames idles old now before between served idle false
+        → Turns now then between after how
         → Ran frames idles old then before after (served_by how served) (idles_by how idle) (fails how)
     ran_more few short r t = record {
       receives = r.receives ++ t.received ∷ [];
@@ -71,8 +73,12 @@ module _ (frames idles : ℕ) where
           (added_both (map message_of r.sent) (map message_of t.sent) before.sent between.sent after.sent r.messages t.messages);
       holds = λ clock is.
           let last = t.holds clock is in
-          let first = r.holds last.0 last.1 in
-          (first.0, first.1, λ more rest finish turned. one clock last.0 first.0 more rest finish (first.2 (t.sendings ++ more) (t.received ∷ rest) finish) (last.2 more r.sent served idle) turned);
+          let first = r.holds last.0 last.1 in (
+            first.0,
+            first.1,
+            λ more rest finish turned. one clock last.0 first.0 more rest finish (first.2 (t.sendings ++ more)
+                (t.received ∷ rest) finish) (last.2 more r.sent served idle) turned,
+          );
     } where
       start : ClockAnswers → List Bool → Serving Peer
       start first more = serving old.node old.last first more [] 0 0 false
@@ -81,19 +87,25 @@ module _ (frames idles : ℕ) where
       middle clock more = serving now.node now.last clock more r.sent served idle false
 
       end : ClockAnswers → List Bool → Serving Peer
-      end clock more = serving then.node then.last clock more (r.sent ++ t.sent) (served_by how served) (idles_by how idle) (fails how)
+      end clock more = serving then.node then.last clock more (r.sent ++ t.sent) (served_by how served) (idles_by how idle)
+          (fails how)
 
       goes_on : (clock : ClockAnswers) (more : List Bool) → is_over frames idles (middle clock more) ≡ false
       goes_on clock more = rw (lt-leb frames served few, lt-leb idles idle short) refl
 
       one : (clock between first : ClockAnswers) (more : List Bool) (rest : List (Received Peer)) (finish : Serving Peer)
-          → (Turned latest frames idles (middle between (t.sendings ++ more)) (t.received ∷ rest) finish → Turned latest frames idles (start first (r.sendings ++ (t.sendings ++ more))) (r.receives ++ t.received ∷ rest) finish)
+          → (Turned latest frames idles (middle between (t.sendings ++ more)) (t.received ∷ rest) finish
+          → Turned latest frames idles (start first (r.sendings ++ (t.sendings ++ more)))
+          (r.receives ++ t.received ∷ rest) finish)
           → turn latest (middle between (t.sendings ++ more)) t.received ≡ end clock more
           → Turned latest frames idles (end clock more) rest finish
-          → Turned latest frames idles (start first ((r.sendings ++ t.sendings) ++ more)) ((r.receives ++ t.received ∷ []) ++ rest) finish
+          → Turned latest frames idles (start first ((r.sendings ++ t.sendings) ++ more))
+          ((r.receives ++ t.received ∷ []) ++ rest) finish
       one clock between first more rest finish so same later =
-          subst (λ rs. Turned latest frames idles (start first ((r.sendings ++ t.sendings) ++ more)) rs finish) (sym (appended r.receives t.received rest))
-          (subst (λ ss. Turned latest frames idles (start first ss) (r.receives ++ t.received ∷ rest) finish) (sym (append_assoc r.sendings t.sendings more))
+          subst (λ rs. Turned latest frames idles (start first ((r.sendings ++ t.sendings) ++ more)) rs finish) (sym
+          (appended r.receives t.received rest))
+          (subst (λ ss. Turned latest frames idles (start first ss) (r.receives ++ t.received ∷ rest) finish) (sym
+          (append_assoc r.sendings t.sendings more))
           (so (goes_on between (t.sendings ++ more), subst (λ s. Turned latest frames idles s rest finish) (sym same) later)))
 
   -- ---- the end
@@ -102,8 +114,10 @@ module _ (frames idles : ℕ) where
   told_clock (Some told) = (clock_of told, refl)
 
   module _ (old now : KeptNode) (before after : Told) (served idle : ℕ) (failed : Bool) (answer : ServeEnd) where
-    pub ran_to_end : Ran frames idles old now before after served idle failed → (failed || leb frames served || leb idles idle) ≡ true
-        → ((clock : ClockAnswers) (sent : List (Peer × List ℕ)) → answer ≡ end_of (serve_stop frames (serving now.node now.last clock [] sent served idle failed)) served)
+    pub ran_to_end : Ran frames idles old now before after served idle failed
+        → (failed || leb frames served || leb idles idle) ≡ true
+        → ((clock : ClockAnswers) (sent : List (Peer × List ℕ))
+        → answer ≡ end_of (serve_stop frames (serving now.node now.last clock [] sent served idle failed)) served)
         → Serves frames idles old now before after answer
     ran_to_end r over ends =
         let clock = told_clock after.moments in
@@ -125,7 +139,7 @@ module _ (frames idles : ℕ) where
 
 -- such turns are the run that the definition has for what was received
 pub turned_so : (keep : ℕ → List Record → List Record) (frames idles : ℕ) (s e : Serving Peer) (rs : List (Received Peer))
-  → Turned keep frames idles s rs e → e ≡ served_over keep frames idles s rs
+    → Turned keep frames idles s rs e → e ≡ served_over keep frames idles s rs
 turned_so keep frames idles s e [] turned =
     turned.0 ∙ sym (on_true (is_over frames idles s) turned.1 s (record s { idles = idles }))
 turned_so keep frames idles s e (r ∷ rs) turned =

@@ -9,17 +9,23 @@ use Rattle.wire_loop.specs.Turns.{IsAfterDatagram, fails, idles_by, served_by, s
 use Rattle.wire_loop.specs.declared.serving.TurnEnd.{TurnEnd}
 use Rattle.wire_loop.specs.declared.serving.TurnEnd.TheVariants as turn_end
 
-counted_by : (node : NodeState) (last : ℕ) (clock : ClockAnswers) (more : List Bool) (sent : List (Peer × List ℕ)) (served idles : ℕ) (how : TurnEnd) → IsAfterDatagram how
-    → counted (serving node last clock more sent served idles (fails how)) ≡ serving node last clock more sent (served_by how served) (idles_by how idles) (fails how)
+counted_by : (node : NodeState) (last : ℕ) (clock : ClockAnswers) (more : List Bool) (sent : List (Peer × List ℕ))
+    (served idles : ℕ) (how : TurnEnd) → IsAfterDatagram how
+    → counted (serving node last clock more sent served idles (fails how)) ≡ serving node last clock more sent
+    (served_by how served) (idles_by how idles) (fails how)
 counted_by node last clock more sent served idles turn_end.Served come = refl
 counted_by node last clock more sent served idles turn_end.Failed come = refl
 counted_by node last clock more sent served idles turn_end.Idle come = absurd come
 
-pub turned : (old new : NodeState) (last now : ℕ) (from : Peer) (bytes : List ℕ) (first clock : ClockAnswers) (sendings more : List Bool) (others sent : List (Peer × List ℕ)) (served idles : ℕ) (how : TurnEnd)
+pub turned : (old new : NodeState) (last now : ℕ) (from : Peer) (bytes : List ℕ) (first clock : ClockAnswers)
+    (sendings more : List Bool) (others sent : List (Peer × List ℕ)) (served idles : ℕ) (how : TurnEnd)
     → IsAfterDatagram how → moment_of first last ≡ now → after_answer first ≡ clock
-    → answers latest from now (items_read bytes) (serving old now clock sendings others served idles false) ≡ serving new now clock more sent served idles (fails how)
-    → turn latest (serving old last first sendings others served idles false) (Datagram bytes from) ≡ serving new now clock more sent (served_by how served) (idles_by how idles) (fails how)
+    → answers latest from now (items_read bytes)
+    (serving old now clock sendings others served idles false) ≡ serving new now clock more sent served idles (fails how)
+    → turn latest (serving old last first sendings others served idles false)
+    (Datagram bytes from) ≡ serving new now clock more sent (served_by how served) (idles_by how idles) (fails how)
 turned old new last now from bytes first clock sendings more others sent served idles how come at after holds =
-    (λ j. counted (answers latest from (at j) (items_read bytes) (serving old (at j) (after j) sendings others served idles false)))
+    (λ j. counted (answers latest from (at j) (items_read bytes) (serving old (at j)
+    (after j) sendings others served idles false)))
     ∙ ap counted holds
     ∙ counted_by new now clock more sent served idles how come

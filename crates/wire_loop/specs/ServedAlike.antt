@@ -26,12 +26,13 @@ AreAlike a b = record b { node = a.node } ≡ a
 -- serves as the ideal node does that starts from its flat state and records
 abbrev pub LawOfServing : Type 0
 LawOfServing =
-    (frames idles : ℕ) (node : NodeState) (last : ℕ) (clock : ClockAnswers) (sendings : Sendings) (receives : List (Received Peer))
+    (frames idles : ℕ) (node : NodeState) (last : ℕ) (clock : ClockAnswers) (sendings : Sendings) (receives : List
+    (Received Peer))
     → IsSetUp node last
     → KeepSpan node (given_over frames idles (serving_of node last clock sendings) receives)
     → AreAlike
-      (served_over latest frames idles (serving_of node last clock sendings) receives)
-      (served_over keep_every frames idles (serving_of node last clock sendings) receives)
+    (served_over latest frames idles (serving_of node last clock sendings) receives)
+    (served_over keep_every frames idles (serving_of node last clock sendings) receives)
 
 -- the turns that were made, one for each receiving, are the run over what the receivings gave, whichever records a node keeps
 abbrev pub TurnsAreServing : Type 0

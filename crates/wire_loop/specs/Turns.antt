@@ -42,7 +42,7 @@ idles_by turn_end.Failed n = n
 
 -- a node that is served
 abbrev pub serving : NodeState → (last : ℕ) → ClockAnswers → List Bool → List (Peer × List ℕ) → (served idles : ℕ) → Bool
-  → Serving Peer
+    → Serving Peer
 serving node last clock sendings sent served idles failed = record {
   node = node;
   last = last;
@@ -56,7 +56,7 @@ serving node last clock sendings sent served idles failed = record {
 
 -- a datagram was answered: some sendings came of it, and whether each went through
 pub record Answers (old new : NodeState) (before after : Option (List Message)) (from : Peer) (now : ℕ) (bytes : List ℕ)
-  (how : TurnEnd) : Type 0 where
+    (how : TurnEnd) : Type 0 where
   pub sendings : List Bool
   pub sent : List (Peer × List ℕ)
   pub messages : Added (map message_of sent) before after

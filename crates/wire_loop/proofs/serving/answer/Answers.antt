@@ -9,13 +9,15 @@ use Rattle.wire_loop.proofs.serving.answer.Goals as goal
 
 pub slice_bounds-send-end : goal.slice_bounds-send-end
 slice_bounds-send-end g c =
-    let short : c.in-Replied.len ≤ REPLY_BYTES = reply_is_short c.args.node.now.node c.args.now c.args.bytes.now c.in-Replied.len c.in-Replied.how c.in-Replied.status c.handle.new.out c.in-Replied.ensures.answer in
+    let short : c.in-Replied.len ≤ REPLY_BYTES = reply_is_short c.args.node.now.node c.args.now c.args.bytes.now
+    c.in-Replied.len c.in-Replied.how c.in-Replied.status c.handle.new.out c.in-Replied.ensures.answer in
     let room : length c.handle.new.out ≡ FRAME_ROOM = search rules in
     omega (arith, short, room)
 
 pub slice_bounds-send-end-in-Replied : goal.slice_bounds-send-end-in-Replied
 slice_bounds-send-end-in-Replied g c =
-    let short : c.in-Replied.len ≤ REPLY_BYTES = reply_is_short c.args.node.now.node c.args.now c.args.bytes.now c.in-Replied.len c.in-Replied.how c.in-Replied.status c.handle.new.out c.in-Replied.ensures.answer in
+    let short : c.in-Replied.len ≤ REPLY_BYTES = reply_is_short c.args.node.now.node c.args.now c.args.bytes.now
+    c.in-Replied.len c.in-Replied.how c.in-Replied.status c.handle.new.out c.in-Replied.ensures.answer in
     let room : length c.handle.new.out ≡ FRAME_ROOM = search rules in
     let within : c.in-Replied.len ≤ length c.handle.new.out = omega (arith, short, room) in
     sym (length-take-le c.in-Replied.len c.handle.new.out within)
@@ -27,8 +29,10 @@ returns-in-Sent-clause-answers g c =
       sent = (c.args.from, sent) ∷ [];
       messages = c.in-Sent.ensures.sent;
       holds = λ clock more others served idles.
-          answers_sent c.args.from c.args.now clock more others served idles c.in-Replied.len c.in-Replied.how c.in-Replied.status c.handle.new.out c.args.node.now.node c.args.bytes.now c.in-Replied.ensures.answer
-          ∙ (λ j. serving (sym c.handle.ensures.node j).node c.args.now clock more (others ++ (c.args.from, sent) ∷ []) served idles false);
+          answers_sent c.args.from c.args.now clock more others served idles c.in-Replied.len c.in-Replied.how
+          c.in-Replied.status c.handle.new.out c.args.node.now.node c.args.bytes.now c.in-Replied.ensures.answer
+          ∙ (λ j. serving (sym c.handle.ensures.node j).node c.args.now clock more (others ++
+          (c.args.from, sent) ∷ []) served idles false);
     }
 
 pub returns-in-Failed-clause-answers : goal.returns-in-Failed-clause-answers
@@ -37,7 +41,8 @@ returns-in-Failed-clause-answers g c = record {
   sent = [];
   messages = added_same _ _ c.in-Failed.ensures.sent;
   holds = λ clock more others served idles.
-      answers_failed c.args.from c.args.now clock more others served idles c.in-Replied.len c.in-Replied.how c.in-Replied.status c.handle.new.out c.args.node.now.node c.args.bytes.now c.in-Replied.ensures.answer
+      answers_failed c.args.from c.args.now clock more others served idles c.in-Replied.len c.in-Replied.how
+      c.in-Replied.status c.handle.new.out c.args.node.now.node c.args.bytes.now c.in-Replied.ensures.answer
       ∙ (λ j. serving (sym c.handle.ensures.node j).node c.args.now clock more (others ++ []) served idles true);
 }
 
@@ -47,7 +52,8 @@ returns-in-Busy-clause-answers g c = record {
   sent = [];
   messages = added_none _;
   holds = λ clock more others served idles.
-      answers_busy c.args.from c.args.now clock more others served idles c.args.node.now.node c.args.bytes.now c.handle.new.out _ _ c.in-Busy.ensures.answer
+      answers_busy c.args.from c.args.now clock more others served idles c.args.node.now.node c.args.bytes.now
+      c.handle.new.out _ _ c.in-Busy.ensures.answer
       ∙ (λ j. serving (sym c.handle.ensures.node j).node c.args.now clock more (others ++ []) served idles false);
 }
 
@@ -57,6 +63,7 @@ returns-in-Bad-clause-answers g c = record {
   sent = [];
   messages = added_none _;
   holds = λ clock more others served idles.
-      answers_bad c.args.from c.args.now clock more others served idles c.args.node.now.node c.args.bytes.now c.handle.new.out _ c.in-Bad.ensures.answer
+      answers_bad c.args.from c.args.now clock more others served idles c.args.node.now.node c.args.bytes.now
+      c.handle.new.out _ c.in-Bad.ensures.answer
       ∙ (λ j. serving (sym c.handle.ensures.node j).node c.args.now clock more (others ++ []) served idles false);
 }

@@ -16,8 +16,9 @@ loop-served-init g c = record {
 
 pub loop-served-preserved-in-Served : goal.loop-served-preserved-in-Served
 loop-served-preserved-in-Served g c = record {
-  ran = ran_more c.args.frames c.args.idles c.args.node.now c.loop-served.node c.turn.new.node _ _ _ c.loop-served.served c.loop-served.idle turn_end.Served
-    (search rules) (search rules) c.loop-served.invariant.ran c.in-Served.ensures.turns;
+  ran = ran_more c.args.frames c.args.idles c.args.node.now c.loop-served.node c.turn.new.node _ _ _ c.loop-served.served
+      c.loop-served.idle turn_end.Served
+      (search rules) (search rules) c.loop-served.invariant.ran c.in-Served.ensures.turns;
   counts = c.in-Served.ensures.counts ∙ c.loop-served.invariant.counts;
   bind = c.in-Served.ensures.bind ∙ c.loop-served.invariant.bind;
   few = search rules;
@@ -26,8 +27,9 @@ loop-served-preserved-in-Served g c = record {
 
 pub loop-served-preserved : goal.loop-served-preserved
 loop-served-preserved g c = record {
-  ran = ran_more c.args.frames c.args.idles c.args.node.now c.loop-served.node c.turn.new.node _ _ _ c.loop-served.served c.loop-served.idle turn_end.Idle
-    (search rules) (search rules) c.loop-served.invariant.ran c.in-Idle.ensures.turns;
+  ran = ran_more c.args.frames c.args.idles c.args.node.now c.loop-served.node c.turn.new.node _ _ _ c.loop-served.served
+      c.loop-served.idle turn_end.Idle
+      (search rules) (search rules) c.loop-served.invariant.ran c.in-Idle.ensures.turns;
   counts = c.in-Idle.ensures.counts ∙ c.loop-served.invariant.counts;
   bind = c.in-Idle.ensures.bind ∙ c.loop-served.invariant.bind;
   few = search rules;
@@ -36,22 +38,30 @@ loop-served-preserved g c = record {
 
 pub returns-in-Failed-clause-serves : goal.returns-in-Failed-clause-serves
 returns-in-Failed-clause-serves g c =
-    let r = ran_more c.args.frames c.args.idles c.args.node.now c.loop-served.node c.turn.new.node _ _ _ c.loop-served.served c.loop-served.idle turn_end.Failed
+    let r = ran_more c.args.frames c.args.idles c.args.node.now c.loop-served.node c.turn.new.node _ _ _ c.loop-served.served
+    c.loop-served.idle turn_end.Failed
     (search rules) (search rules) c.loop-served.invariant.ran c.in-Failed.ensures.turns in
-    ran_to_end c.args.frames c.args.idles c.args.node.now c.turn.new.node _ _ c.loop-served.served c.loop-served.idle true _ r refl (λ clock sent. refl)
+    ran_to_end c.args.frames c.args.idles c.args.node.now c.turn.new.node _ _ c.loop-served.served
+    c.loop-served.idle true _ r refl (λ clock sent. refl)
 
 pub returns-then-served-frames-clause-serves : goal.returns-then-served-frames-clause-serves
 returns-then-served-frames-clause-serves g c =
     let all : c.args.frames ≤ c.loop-served.served = search rules in
     let full : leb c.args.frames c.loop-served.served ≡ true = le-leb c.args.frames c.loop-served.served all in
-    ran_to_end c.args.frames c.args.idles c.args.node.now c.loop-served.node _ _ c.loop-served.served c.loop-served.idle false _ c.loop-served.invariant.ran
+    ran_to_end c.args.frames c.args.idles c.args.node.now c.loop-served.node _ _ c.loop-served.served
+    c.loop-served.idle false _ c.loop-served.invariant.ran
     (rw full refl) (λ clock sent. rw full refl)
 
 pub returns-clause-serves : goal.returns-clause-serves
 returns-clause-serves g c =
     let few : c.loop-served.served < c.args.frames = search rules in
-    let quiet : c.args.idles ≤ c.loop-served.idle = elim c.loop-served-test.branch [ then-loop-served-test+else-idle-idles w ↦ search rules | else-loop-served-test w ↦ search rules ] in
+    let quiet : c.args.idles ≤ c.loop-served.idle = elim
+    c.loop-served-test.branch [
+      | then-loop-served-test+else-idle-idles w ↦ search rules
+      | else-loop-served-test w ↦ search rules
+    ] in
     let not_full : leb c.args.frames c.loop-served.served ≡ false = lt-leb c.args.frames c.loop-served.served few in
     let over : leb c.args.idles c.loop-served.idle ≡ true = le-leb c.args.idles c.loop-served.idle quiet in
-    ran_to_end c.args.frames c.args.idles c.args.node.now c.loop-served.node _ _ c.loop-served.served c.loop-served.idle false _ c.loop-served.invariant.ran
+    ran_to_end c.args.frames c.args.idles c.args.node.now c.loop-served.node _ _ c.loop-served.served
+    c.loop-served.idle false _ c.loop-served.invariant.ran
     (rw (not_full, over) refl) (λ clock sent. rw not_full refl)

@@ -8,9 +8,9 @@ use Rattle.wire_loop.proofs.serving.serve.Given as goal
 abbrev pub invariant-loop-served : goal.invariant-loop-served
 invariant-loop-served g l = record {
   ran : Ran l.frames l.idles l.fn.node l.node
-    (told_of (g.W.Wire.coming l.fn.wire) (g.W.Wire.sent l.fn.wire) (g.C.Clock.moments l.fn.clock))
-    (told_of (g.W.Wire.coming l.wire) (g.W.Wire.sent l.wire) (g.C.Clock.moments l.clock))
-    l.served l.idle false;
+      (told_of (g.W.Wire.coming l.fn.wire) (g.W.Wire.sent l.fn.wire) (g.C.Clock.moments l.fn.clock))
+      (told_of (g.W.Wire.coming l.wire) (g.W.Wire.sent l.wire) (g.C.Clock.moments l.clock))
+      l.served l.idle false;
   counts : NoneFailed (g.W.Wire.faults l.fn.wire) (g.W.Wire.faults l.wire);
   bind : g.W.Wire.last_bind l.wire ≡ g.W.Wire.last_bind l.fn.wire;
   few : l.served ≤ l.frames;
