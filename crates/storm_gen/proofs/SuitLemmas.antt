@@ -130,7 +130,8 @@ ordinary_round i g =
 pub ordinary_rounds : (i n : ℕ) (g : Lcg) → Each IsOrdinary (rounds i n g)
 ordinary_rounds i zero g = tt
 ordinary_rounds i (suc n) g =
-    each_append IsOrdinary (round i g).0 (rounds (i + 1) n (round i g).1) (ordinary_round i g) (ordinary_rounds (i + 1) n (round i g).1)
+    each_append IsOrdinary (round i g).0 (rounds (i + 1) n (round i g).1) (ordinary_round i g)
+    (ordinary_rounds (i + 1) n (round i g).1)
 
 -- ---- before and after the rounds
 ordinary_deliveries : (n : ℕ) → Each IsOrdinary (deliveries n)
@@ -148,7 +149,13 @@ ordinary_settle : Each IsOrdinary settle
 unfolding settle
 ordinary_settle =
     let each : Each IsOrdinary (polls (1 ∷ 2 ∷ 3 ∷ 4 ∷ []))
-    = (ordinary_poll 0 (omega arith), (ordinary_poll 1 (omega arith), (ordinary_poll 2 (omega arith), (ordinary_poll 3 (omega arith), tt)))) in
+    = (
+      ordinary_poll 0 (omega arith),
+      (
+        ordinary_poll 1 (omega arith),
+        (ordinary_poll 2 (omega arith), (ordinary_poll 3 (omega arith), tt)),
+      ),
+    ) in
     each_append IsOrdinary (polls (1 ∷ 2 ∷ 3 ∷ 4 ∷ []) ++ deliveries 8) (event.Tick 10 ∷ [])
     (each_append IsOrdinary (polls (1 ∷ 2 ∷ 3 ∷ 4 ∷ [])) (deliveries 8) each (ordinary_deliveries 8))
     (record { typed = refl; known = refl; plain = (omega arith, omega arith) }, tt)

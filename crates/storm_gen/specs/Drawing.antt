@@ -5,6 +5,6 @@ use Rattle.cl_types.specs.declared.schedule.Event.{Event}
 use Rattle.storm_gen.specs.Generated.{Drawn}
 
 -- the drawn events come after the old ones, and the generator is the one after the draws
-pub record Adds (old : List Event) (drawn : Drawn (List Event)) (new : List Event) (g : Lcg) : Type 0 where
+pub record Adds (old : List Event) (drawn : Drawn (List Event)) (new : List Event) (after : Lcg) : Type 0 where
   pub events : new ≡ old ++ drawn.0
-  pub rest : g ≡ drawn.1
+  pub rest : after ≡ drawn.1

@@ -42,10 +42,9 @@ choice g =
     let kind : Drawn ℕ = draw 8 client.1 in
     let page : Drawn ℕ = draw 136 kind.1 in
     let offset : Drawn ℕ = draw 504 page.1 in
-    let len : Drawn ℕ = draw 64 offset.1 in (
-      record { client = record { 0 = 1 + client.0 }; kind = kind.0; addr = address_of (1 + page.0) (8 * offset.0); len = 1 + len.0 },
-      len.1,
-    )
+    let len : Drawn ℕ = draw 64 offset.1 in
+    let addr : Addr = address_of (1 + page.0) (8 * offset.0) in
+    (record { client = record { 0 = 1 + client.0 }; kind = kind.0; addr = addr; len = 1 + len.0 }, len.1)
 
 -- a Write of bytes of one drawn value
 abbrev pub write_drawn : Choice → Drawn ℕ → Drawn CallText

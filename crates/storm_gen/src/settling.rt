@@ -13,13 +13,13 @@ use cl_types::schedule::{CallText, Event};
 /// How many pages each client allocates.
 const PAGES: u32 = 64;
 
-/// After the last call: how many closing rounds there are, ..
+/// How many closing rounds come after the last call: 640 ticks, more than the 400 after which a part is given up.
 const SETTLES: u32 = 64;
 
-/// .. how many frames are handed out in each, ..
+/// How many frames are handed out in a closing round.
 const DELIVERIES: u32 = 8;
 
-/// .. and by how many ticks time goes on in it.
+/// By how many ticks time goes on in a closing round.
 const TICKS: u64 = 10;
 
 /// Delivers the next frame so many times.
@@ -82,7 +82,7 @@ fn settle(lines: &mut Lines) -> Result<(), NoMemory>
     lines.push(Event::Tick { by: TICKS })
 }
 
-/// The closing rounds: each client is polled, frames are handed out, and time goes on, until all calls have ended.
+/// The closing rounds: in each, every client is polled, frames are handed out, and time goes on.
 pub fn settle_all(lines: &mut Lines) -> Result<(), NoMemory>
     requires { length lines.old + 832 ≤ MOST_EVENTS }
     ensures { OnOk result (lines.new ≡ lines.old ++ settles 64) }

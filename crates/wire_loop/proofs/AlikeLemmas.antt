@@ -9,7 +9,7 @@ use Rattle.node_model.specs.Nodes.{NodeState, NodeStep, Record, ItemAnswer, Give
 use Rattle.node_laws.specs.Span.{Given, AreInTime, answers_to}
 use Rattle.node_laws.proofs.SpanKept.{law_of_span}
 use Rattle.wire_loop.specs.Outside.{Received, Datagram, NothingCame, ReceivingFailed, moment_of, goes_through}
-use Rattle.wire_loop.specs.ServedAlike.{LawOfServing, given_in, given_over}
+use Rattle.wire_loop.specs.ServedAlike.{AreAlike, LawOfServing, given_in, given_over}
 use Rattle.wire_loop.specs.Serving.{Serving, answers, at_moment, counted, is_over, said_back, served_over, serving_of, turn, with_reply}
 
 -- the same run with this node
@@ -150,19 +150,28 @@ not_failed frames idles s going = go s.failed going
     go false is = refl
 
 -- ---- the turns
+-- two runs are alike where serving is over, and where it goes on if the nodes answer what they are given alike
+alike_either : (over : Bool) (given : List Given) (k n : NodeState) (s t s2 t2 : Serving Peer)
+    → AreAlike s t
+    → (over ≡ false → answers_to latest k given ≡ answers_to keep_every n given → AreAlike s2 t2)
+    → answers_to latest k (elim over [ true ↦ [] | false ↦ given ]) ≡ answers_to keep_every n (elim over [ true ↦ [] | false ↦ given ])
+    → AreAlike (elim over [ true ↦ s | false ↦ s2 ]) (elim over [ true ↦ t | false ↦ t2 ])
+alike_either true given k n s t s2 t2 ended more same = ended
+alike_either false given k n s t s2 t2 ended more same = more refl same
+
+both_none : (over : Bool) (k n : NodeState)
+    → answers_to latest k (elim over [ true ↦ [] | false ↦ [] ]) ≡ answers_to keep_every n (elim over [ true ↦ [] | false ↦ [] ])
+both_none true k n = refl
+both_none false k n = refl
+
 module _ (frames idles : ℕ) where
   -- the two nodes answer all datagrams of the turns alike
   abbrev AnswerAlike : List (Received Peer) → Serving Peer → NodeState → Type 0
-  AnswerAlike rs s n = answers_to latest s.node (given_over frames idles s rs) ≡ answers_to keep_every n
-      (given_over frames idles s rs)
+  AnswerAlike rs s n = answers_to latest s.node (given_over frames idles s rs) ≡ answers_to keep_every n (given_over frames idles s rs)
 
-  -- the runs of the two nodes differ in their nodes at most
+  -- the runs of the two nodes are alike
   abbrev RunAlike : List (Received Peer) → Serving Peer → NodeState → Type 0
-  RunAlike rs s n = record (served_over keep_every frames idles (having n s) rs) {
-    node =
-        (served_over latest frames idles s rs).node;
-  }
-      ≡ served_over latest frames idles s rs
+  RunAlike rs s n = AreAlike (served_over latest frames idles s rs) (served_over keep_every frames idles (having n s) rs)
 
   -- one turn of both, where serving goes on
   turned_alike : (r : Received Peer) (rs : List (Received Peer)) (s : Serving Peer) (n : NodeState)
@@ -170,11 +179,9 @@ module _ (frames idles : ℕ) where
       → is_over frames idles s ≡ false
       → answers_to latest s.node (given_in s r ++ given_over frames idles (turn latest s r) rs)
       ≡ answers_to keep_every n (given_in s r ++ given_over frames idles (turn latest s r) rs)
-      → record (served_over keep_every frames idles (turn keep_every (having n s) r) rs) {
-        node = (served_over latest frames idles
-            (turn latest s r) rs).node;
-      }
-      ≡ served_over latest frames idles (turn latest s r) rs
+      → AreAlike
+      (served_over latest frames idles (turn latest s r) rs)
+      (served_over keep_every frames idles (turn keep_every (having n s) r) rs)
   unfolding having
   turned_alike NothingCame rs s n rest going alike = rest (turn latest s NothingCame) n alike
   turned_alike ReceivingFailed rs s n rest going alike = rest (turn latest s ReceivingFailed) n alike
@@ -196,59 +203,21 @@ module _ (frames idles : ℕ) where
       ∙ ap (having m) (left_having from bytes b n s)
       ∙ ap (λ (x : NodeAnswer). having m (left_by from bytes x s)) (sym same)
       ∙ ap (having m) (sym first) in
-      ap (λ (z : Serving Peer). record (served_over keep_every frames idles z rs) {
-        node =
-            (served_over latest frames idles s2 rs).node;
-      }) second
-      ∙ rest s2 m (ap (λ (z : Serving Peer). answers_to latest z.node given) first ∙ others)
+      subst (λ (z : Serving Peer). AreAlike (served_over latest frames idles s2 rs) (served_over keep_every frames idles z rs))
+      (sym second)
+      (rest s2 m (ap (λ (z : Serving Peer). answers_to latest z.node given) first ∙ others))
 
   same_run : (rs : List (Received Peer)) (s : Serving Peer) (n : NodeState) → AnswerAlike rs s n → RunAlike rs s n
   unfolding having
-  same_run [] s n alike = go (is_over frames idles s)
-    where
-      go : (b : Bool) → ◌≡◌ {A = Serving Peer}
-          (record (elim b as (λ z. Serving Peer) [ true ↦ having n s | false ↦ record (having n s) { idles = idles } ]) {
-            node = (elim b as (λ z. Serving Peer) [ true ↦ s | false ↦ record s { idles = idles } ]).node;
-          })
-          (elim b as (λ z. Serving Peer) [ true ↦ s | false ↦ record s { idles = idles } ])
-      go true = refl
-      go false = refl
-  same_run (r ∷ rs) s n alike = go (is_over frames idles s) refl alike (turned_alike r rs s n (same_run rs))
-    where
-      go : (b : Bool) → is_over frames idles s ≡ b
-          → answers_to latest s.node (elim b as (λ z. List Given) [
-            | true ↦ []
-            | false ↦ given_in s r ++ given_over frames idles
-                (turn latest s r) rs
-          ])
-          ≡ answers_to keep_every n (elim b as (λ z. List Given) [
-            | true ↦ []
-            | false ↦ given_in s r ++ given_over frames idles
-                (turn latest s r) rs
-          ])
-          → (is_over frames idles s ≡ false
-          → answers_to latest s.node (given_in s r ++ given_over frames idles (turn latest s r) rs)
-          ≡ answers_to keep_every n (given_in s r ++ given_over frames idles (turn latest s r) rs)
-          → record (served_over keep_every frames idles (turn keep_every (having n s) r) rs) {
-            node =
-                (served_over latest frames idles (turn latest s r) rs).node;
-          }
-          ≡ served_over latest frames idles (turn latest s r) rs)
-          → ◌≡◌ {A = Serving Peer}
-          (record (elim b as (λ z. Serving Peer) [
-            | true ↦ having n s
-            | false ↦ served_over keep_every frames idles
-                (turn keep_every (having n s) r) rs
-          ]) {
-            node = (elim b as (λ z. Serving Peer) [
-              | true ↦ s
-              | false ↦ served_over latest frames idles
-                  (turn latest s r) rs
-            ]).node;
-          })
-          (elim b as (λ z. Serving Peer) [ true ↦ s | false ↦ served_over latest frames idles (turn latest s r) rs ])
-      go true is same more = refl
-      go false is same more = more is same
+  same_run [] s n alike =
+      let ended : Serving Peer = record s { idles = idles } in
+      alike_either (is_over frames idles s) [] s.node n s (having n s) ended (having n ended) refl (λ going same. refl)
+      (both_none (is_over frames idles s) s.node n)
+  same_run (r ∷ rs) s n alike =
+      alike_either (is_over frames idles s) (given_in s r ++ given_over frames idles (turn latest s r) rs) s.node n s (having n s)
+      (served_over latest frames idles (turn latest s r) rs)
+      (served_over keep_every frames idles (turn keep_every (having n s) r) rs)
+      refl (turned_alike r rs s n (same_run rs)) alike
 
   -- the moments don't fall
   turned_in_time : (r : Received Peer) (rs : List (Received Peer)) (s : Serving Peer)

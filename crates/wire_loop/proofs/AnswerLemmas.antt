@@ -39,8 +39,8 @@ module _ (from : Peer) (now : ℕ) (clock : ClockAnswers) (more : List Bool) (ot
       answers_sent told = go (request_fault frame) told where
         go : (o : Option BadFrame) → Tells frame (answer_judged latest n now frame o) (outcome.Replied len how status) out
             → answers latest from now (items_judged frame o) (serving n now clock (true ∷ more) others served idles false)
-            ≡ serving (node_after latest n now (items_judged frame o)) now clock more (others ++
-            (from, take len out) ∷ []) served idles false
+            ≡ serving (node_after latest n now (items_judged frame o)) now clock more
+            (others ++ (from, take len out) ∷ []) served idles false
         go (Some fault) told = absurd told
         go None told =
             let i : Item = record { head = head_in frame; request = request_in frame } in

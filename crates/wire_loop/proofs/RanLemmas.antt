@@ -76,8 +76,8 @@ module _ (frames idles : ℕ) where
           let first = r.holds last.0 last.1 in (
             first.0,
             first.1,
-            λ more rest finish turned. one clock last.0 first.0 more rest finish (first.2 (t.sendings ++ more)
-                (t.received ∷ rest) finish) (last.2 more r.sent served idle) turned,
+            λ more rest finish turned. one clock last.0 first.0 more rest finish
+                (first.2 (t.sendings ++ more) (t.received ∷ rest) finish) (last.2 more r.sent served idle) turned,
           );
     } where
       start : ClockAnswers → List Bool → Serving Peer
@@ -95,17 +95,16 @@ module _ (frames idles : ℕ) where
 
       one : (clock between first : ClockAnswers) (more : List Bool) (rest : List (Received Peer)) (finish : Serving Peer)
           → (Turned latest frames idles (middle between (t.sendings ++ more)) (t.received ∷ rest) finish
-          → Turned latest frames idles (start first (r.sendings ++ (t.sendings ++ more)))
-          (r.receives ++ t.received ∷ rest) finish)
+          → Turned latest frames idles (start first (r.sendings ++ (t.sendings ++ more))) (r.receives ++ t.received ∷ rest) finish)
           → turn latest (middle between (t.sendings ++ more)) t.received ≡ end clock more
           → Turned latest frames idles (end clock more) rest finish
           → Turned latest frames idles (start first ((r.sendings ++ t.sendings) ++ more))
           ((r.receives ++ t.received ∷ []) ++ rest) finish
       one clock between first more rest finish so same later =
-          subst (λ rs. Turned latest frames idles (start first ((r.sendings ++ t.sendings) ++ more)) rs finish) (sym
-          (appended r.receives t.received rest))
-          (subst (λ ss. Turned latest frames idles (start first ss) (r.receives ++ t.received ∷ rest) finish) (sym
-          (append_assoc r.sendings t.sendings more))
+          subst (λ rs. Turned latest frames idles (start first ((r.sendings ++ t.sendings) ++ more)) rs finish)
+          (sym (appended r.receives t.received rest))
+          (subst (λ ss. Turned latest frames idles (start first ss) (r.receives ++ t.received ∷ rest) finish)
+          (sym (append_assoc r.sendings t.sendings more))
           (so (goes_on between (t.sendings ++ more), subst (λ s. Turned latest frames idles s rest finish) (sym same) later)))
 
   -- ---- the end

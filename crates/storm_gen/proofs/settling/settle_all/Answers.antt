@@ -22,4 +22,6 @@ loop-preserved c =
 pub returns : goal.returns
 returns c =
     let done : 64 - c.loop.counter ≡ 0 = omega arith in
-    sym (append-nil c.loop.lines) ∙ ap (λ rest. c.loop.lines ++ rest) (sym no_settles ∙ ap settles (sym done)) ∙ c.loop.invariant.events
+    sym (append-nil c.loop.lines)
+    ∙ ap (λ rest. c.loop.lines ++ rest) (sym no_settles ∙ ap settles (sym done))
+    ∙ c.loop.invariant.events

@@ -31,8 +31,8 @@ returns-in-Sent-clause-answers g c =
       holds = λ clock more others served idles.
           answers_sent c.args.from c.args.now clock more others served idles c.in-Replied.len c.in-Replied.how
           c.in-Replied.status c.handle.new.out c.args.node.now.node c.args.bytes.now c.in-Replied.ensures.answer
-          ∙ (λ j. serving (sym c.handle.ensures.node j).node c.args.now clock more (others ++
-          (c.args.from, sent) ∷ []) served idles false);
+          ∙ (λ j. serving (sym c.handle.ensures.node j).node c.args.now clock more
+          (others ++ (c.args.from, sent) ∷ []) served idles false);
     }
 
 pub returns-in-Failed-clause-answers : goal.returns-in-Failed-clause-answers

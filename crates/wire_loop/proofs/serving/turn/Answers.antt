@@ -21,25 +21,24 @@ returns-in-Got-clause-turns g c =
       sent = a.sent;
       gave = (
         got.0,
-        subst (λ o. Took (got.0 ∷ []) (g.W.Wire.coming c.args.wire.now) o) (sym
-            c.answer.ensures.coming) got.1,
+        subst (λ o. Took (got.0 ∷ []) (g.W.Wire.coming c.args.wire.now) o) (sym c.answer.ensures.coming) got.1,
         got.2.bytes ∙ ap (λ n. take n got.0.bytes) room,
         got.2.from_peer,
       );
       messages = subst (λ o. Added (map message_of a.sent) o (g.W.Wire.sent c.answer.new.wire)) c.in-Got.ensures.sent a.messages;
       holds = λ clock is.
-          let b = clock_before (g.C.Clock.moments c.args.clock.now) c.now.result c.now.ensures.answer clock (subst
-          (IsTold clock) c.now.ensures.moments is) in
-          let at : moment_of b.first c.args.node.now.last ≡ c.max-now.result = ap (λ n. max n c.args.node.now.last) b.gives
-          ∙ search rules in (
+          let later = subst (IsTold clock) c.now.ensures.moments is in
+          let b = clock_before (g.C.Clock.moments c.args.clock.now) c.now.result c.now.ensures.answer clock later in
+          let at : moment_of b.first c.args.node.now.last ≡ c.max-now.result
+          = ap (λ n. max n c.args.node.now.last) b.gives ∙ search rules in (
             b.first,
             b.told,
             λ more others served idles.
                 turned c.args.node.now.node c.answer.new.node.node c.args.node.now.last c.max-now.result
                 c.in-Got.from bytes b.first clock (a.sendings ++ more) more others (others ++ a.sent) served idles
                 c.answer.result c.answer.ensures.came at b.after (a.holds clock more others served idles)
-                ∙ (λ j. serving c.answer.new.node.node (sym c.answer.ensures.last j) clock more (others ++ a.sent) (served_by
-                c.answer.result served) (idles_by c.answer.result idles) (fails c.answer.result)),
+                ∙ (λ j. serving c.answer.new.node.node (sym c.answer.ensures.last j) clock more (others ++ a.sent)
+                (served_by c.answer.result served) (idles_by c.answer.result idles) (fails c.answer.result)),
           );
     }
 
