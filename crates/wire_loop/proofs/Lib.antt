@@ -3,3 +3,10 @@ mod RanLemmas
 mod AnswerLemmas
 mod TurnLemmas
 mod AlikeLemmas
+mod StepLemmas
+mod PollLemmas
+mod IssueLemmas
+mod HandLemmas
+mod OnceLemmas
+mod BreakLemmas
+mod DriveLemmas

@@ -6,3 +6,6 @@ pub mod Serves
 pub mod Turns
 pub mod Ran
 pub mod ServedAlike
+pub mod Drives
+pub mod Driven
+pub mod Steps
