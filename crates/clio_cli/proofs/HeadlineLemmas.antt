@@ -1,7 +1,8 @@
--- The laws of the account, for every schedule that was read.
+-- The laws of the account, for every schedule that was read or generated.
 use Rattle.std.proofs.Common.{◌≡◌, ◌∙◌, ℕ, List, Option, Ok, subst, sym}
 use Rattle.cl_outside.specs.declared.faults.Faults.{Faults}
 use Rattle.cl_types.specs.declared.schedule.Schedule.{Schedule}
+use Rattle.texts.specs.Commands.{Command, command_in}
 use Rattle.texts.specs.Text.{Text}
 use Rattle.trace.specs.Events.{account}
 use Rattle.texts.specs.Grammar.{schedule_of}
@@ -13,7 +14,7 @@ use Rattle.trace_laws.proofs.RunKept.{law_of_runs}
 use Rattle.trace_laws.proofs.Spelled.{rises_from_zero}
 use Rattle.history_laws.proofs.StandsKept.{law_of_stands}
 use Rattle.trace_laws.proofs.TimesKept.{law_of_times}
-use Rattle.clio_cli.specs.Headline.{EndsInHeadline, Headline, LeavesNothing}
+use Rattle.clio_cli.specs.Headline.{EndsInHeadline, Headline, LeavesNothing, Succeeds}
 use Rattle.clio_cli.specs.Run.{EndsWith, Outside}
 use Rattle.clio_cli.specs.Runs.{Runs}
 use Rattle.clio_cli.specs.Status.{number_of}
@@ -21,12 +22,11 @@ use Rattle.clio_cli.specs.Wanted.{Keeps, Serves}
 use Rattle.clio_cli.specs.declared.left.Left.{Left}
 use Rattle.clio_cli.specs.declared.status.Status.{Status}
 use Rattle.clio_cli.specs.declared.status.Status.TheVariants as status
-use Rattle.clio_cli.proofs.RunLemmas.{bad_input_exactly, bad_node_exactly, bad_words_exactly, completely, faults_end, one_status, too_long_exactly}
+use Rattle.clio_cli.proofs.RunLemmas.{bad_input_exactly, bad_node_exactly, bad_words_exactly, completely, faults_end, not_run_exactly, one_status, too_long_exactly}
 
--- the account of a schedule that was read keeps the headline
-pub headline_law : (bytes : List ℕ) (s : Schedule) → schedule_of bytes ≡ Ok s → Headline s.config (account s.config s.events)
-headline_law bytes s is =
-    let good : IsGood s.config s.events = schedules_are_good bytes s is in
+-- the account of a good schedule keeps the headline
+pub headline_of_good : (s : Schedule) → IsGood s.config s.events → Headline s.config (account s.config s.events)
+headline_of_good s good =
     let rising : IsRisingFrom 0 s.events = rises_from_zero s.events good.rising in
     let typed : AreTyped s.events = good.typed in
     let run = law_of_runs s.config s.events rising typed in
@@ -39,43 +39,49 @@ headline_law bytes s is =
       times = law_of_times s.config s.events rising;
     }
 
--- with success the transcript was written, its account keeps the headline, and the world is left
-pub ends_in_headline : (before after : Outside) (kept : Left) (number : ℕ) (st : Status) → number ≡ number_of st → Keeps before after kept st → EndsInHeadline before after kept number
-ends_in_headline before after kept number st is keeps same =
-    subst (Keeps before after kept) (one_status st status.Ok (sym is ∙ same)) keeps
+-- and so does the account of a schedule that was read
+pub headline_law : (bytes : List ℕ) (s : Schedule) → schedule_of bytes ≡ Ok s → Headline s.config (account s.config s.events)
+headline_law bytes s is = headline_of_good s (schedules_are_good bytes s is)
 
--- with any other status nothing is left
-pub leaves_nothing : (before after : Outside) (kept : Left) (number : ℕ) (st : Status) → number ≡ number_of st → Keeps before after kept st → LeavesNothing kept number
-leaves_nothing before after kept number status.Ok is keeps other = absurd (other is)
-leaves_nothing before after kept number status.BadWords is keeps other = keeps
-leaves_nothing before after kept number status.BadInput is keeps other = keeps
-leaves_nothing before after kept number status.ReadFault is keeps other = keeps
-leaves_nothing before after kept number status.WriteFault is keeps other = keeps
-leaves_nothing before after kept number status.NoMemory is keeps other = keeps
-leaves_nothing before after kept number status.TooLong is keeps other = keeps
-leaves_nothing before after kept number status.BadNode is keeps other = keeps
+module _ (words : List Text) (before after : Outside) (kept : Left) (number : ℕ) where
+  -- with success the command did what it is for
+  ends_in_headline : (st : Status) → number ≡ number_of st → Keeps (command_in words) before after kept st → EndsInHeadline words before after kept number
+  ends_in_headline st is keeps same = subst (Keeps (command_in words) before after kept) (one_status st status.Ok (sym is ∙ same)) keeps
 
--- what is promised of a command line that was served
-pub runs : (words : List Text) (before after : Outside) (kept : Left) (st : Status) (number : ℕ) → number ≡ number_of st → Serves words before after kept st → Runs words before after kept number
-runs words before after kept st number is serves = record {
-  ends = end;
-  complete = completely words after number reads writes written before.left end;
-  headline = ends_in_headline before after kept number st is serves.keeps;
-  left = leaves_nothing before after kept number st is serves.keeps;
-  bad_words = bad_words_exactly words after number reads writes written before.left end;
-  bad_input = bad_input_exactly words after number reads writes written before.left end;
-  too_long = too_long_exactly words after number reads writes written before.left end;
-  bad_node = bad_node_exactly words after number reads writes written before.left end;
-  faults = faults_end words before after number end;
-} where
-  end : EndsWith words before after number
-  end = (st, is, serves.ends)
+  -- with any other status nothing is left
+  leaves_nothing : (st : Status) → number ≡ number_of st → Keeps (command_in words) before after kept st → LeavesNothing kept number
+  leaves_nothing status.Ok is keeps other = absurd (other is)
+  leaves_nothing status.BadWords is keeps other = keeps
+  leaves_nothing status.BadInput is keeps other = keeps
+  leaves_nothing status.ReadFault is keeps other = keeps
+  leaves_nothing status.WriteFault is keeps other = keeps
+  leaves_nothing status.NoMemory is keeps other = keeps
+  leaves_nothing status.NotRun is keeps other = keeps
+  leaves_nothing status.TooLong is keeps other = keeps
+  leaves_nothing status.BadNode is keeps other = keeps
 
-  reads : Faults
-  reads = before.read_faults
+  -- what is promised of a command line that was served
+  pub runs : (st : Status) → number ≡ number_of st → Serves (command_in words) before after kept st → Runs words before after kept number
+  runs st is serves = record {
+    ends = end;
+    complete = completely after number reads writes written st is (command_in words) before.left serves.ends;
+    headline = ends_in_headline st is serves.keeps;
+    left = leaves_nothing st is serves.keeps;
+    bad_words = bad_words_exactly words after number reads writes written before.left end;
+    bad_input = bad_input_exactly words after number reads writes written before.left end;
+    too_long = too_long_exactly words after number reads writes written before.left end;
+    bad_node = bad_node_exactly words after number reads writes written before.left end;
+    not_run = not_run_exactly words after number reads writes written before.left end;
+    faults = faults_end (command_in words) before after number st is serves.ends;
+  } where
+    end : EndsWith words before after number
+    end = (st, is, serves.ends)
 
-  writes : Faults
-  writes = before.write_faults
+    reads : Faults
+    reads = before.read_faults
 
-  written : Option (List ℕ)
-  written = before.written
+    writes : Faults
+    writes = before.write_faults
+
+    written : Option (List ℕ)
+    written = before.written

@@ -3,7 +3,9 @@ pub mod StepLemmas
 pub mod SuitedLemmas
 pub mod GatherLemmas
 pub mod ReplayLemmas
-pub mod VerdictLemmas
+pub mod OutputLemmas
+pub mod JudgeLemmas
 pub mod RunLemmas
 pub mod HeadlineLemmas
 pub mod ServeLemmas
+pub mod StormLemmas

@@ -1,8 +1,9 @@
 -- The loop over the events of a schedule, and the whole transcript.
-use Rattle.std.proofs.Common.{◌≡◌, ℕ, ◌+◌, ◌<◌, List, [], ◌∷◌, ◌++◌, Option, Some, None, refl, sym, ap, subst, ◌∙◌, length, arith, append-nil, append_assoc, length-append}
+use Rattle.std.proofs.Common.{◌≤◌, ◌≡◌, ℕ, ◌+◌, ◌<◌, List, [], ◌∷◌, ◌++◌, Option, Some, None, refl, sym, ap, subst, ◌∙◌, length, arith, append-nil, append_assoc, length-append, get_or}
 use Rattle.std.specs.Prelude.{◌^◌, false, flat_map, slice_get}
 use Rattle.std.specs.List.{AllByRecursion as Each}
 use Rattle.std.proofs.lemmas.Grind.{flat_map-append}
+use Rattle.std.proofs.lemmas.Option.{slice_get_read}
 use Rattle.cl_outside.specs.Loops.{WroteFront}
 use Rattle.cl_outside.specs.Told.{Added}
 use Rattle.cl_types.specs.declared.config.Config.{Config}
@@ -28,7 +29,7 @@ use Rattle.world.proofs.Beginning.{stands_for_none}
 use Rattle.world.proofs.Follows.{worlds_follow}
 use Rattle.world.proofs.Standing.{stands_next}
 use Rattle.clio_cli.specs.Gathered.{Gathered}
-use Rattle.clio_cli.specs.Replay.{After, IsServed, end_text, event_text, history_text, step_text, text_of_events}
+use Rattle.clio_cli.specs.Replay.{After, IsServed, Reached, end_text, event_text, history_text, step_text, text_of_events}
 use Rattle.clio_cli.proofs.GatherLemmas.{added_none, front_on, front_wider, gathered_all, gathered_on}
 use Rattle.clio_cli.proofs.StepLemmas.{good_step}
 
@@ -122,18 +123,22 @@ next_is [] [] e at = absurd (let never : ◌≡◌ {A = Option (ℕ × Event)} N
 next_is [] (x ∷ more) e at = let same : x ≡ e = cc in (more, ap (λ y. y ∷ more) same)
 next_is (x ∷ done) rest e at = next_is done rest e at
 
+-- the item at a loop's place is the event there
+pub event_at : (items events : List (ℕ × Event)) (i : ℕ) (e : ℕ × Event) → items ≡ events → e ≡ get_or items i e → i < length items → slice_get events i ≡ Some e
+event_at items events i e same is within = subst (λ (es : List (ℕ × Event)). slice_get es i ≡ Some e) same (slice_get_read items (length items) i e refl within is)
+
 -- ---- one event more
-module _ (s : Schedule) (served : IsServed s) (i : ℕ) (w : Running) (held : Text) (before mid : Option (List ℕ)) (after : After s i w held before mid) (e : ℕ × Event) (at : slice_get s.events i ≡ Some e) where
-  next : (more : List (ℕ × Event)) × (after.rest ≡ e ∷ more)
+module _ (s : Schedule) (served : IsServed s) (i : ℕ) (w : Running) (reached : Reached s i w) (e : ℕ × Event) (at : slice_get s.events i ≡ Some e) where
+  pub next : (more : List (ℕ × Event)) × (reached.rest ≡ e ∷ more)
   next =
-      let here : slice_get (after.done ++ after.rest) (length after.done) ≡ Some e = ap (λ (es : List (ℕ × Event)). slice_get es (length after.done)) (sym after.split) ∙ ap (slice_get s.events) after.place ∙ at in
-      next_is after.done after.rest e here
+      let here : slice_get (reached.done ++ reached.rest) (length reached.done) ≡ Some e = ap (λ (es : List (ℕ × Event)). slice_get es (length reached.done)) (sym reached.split) ∙ ap (slice_get s.events) reached.place ∙ at in
+      next_is reached.done reached.rest e here
 
-  rising : IsRisingFrom (w.line + 1) (e ∷ next.0)
-  rising = subst (IsRisingFrom (w.line + 1)) next.1 after.rising
+  pub rising : IsRisingFrom (w.line + 1) (e ∷ next.0)
+  rising = subst (IsRisingFrom (w.line + 1)) next.1 reached.rising
 
-  split : s.events ≡ (after.done ++ e ∷ []) ++ next.0
-  split = after.split ∙ ap (λ es. after.done ++ es) next.1 ∙ sym (append_assoc after.done (e ∷ []) next.0)
+  pub split : s.events ≡ (reached.done ++ e ∷ []) ++ next.0
+  split = reached.split ∙ ap (λ es. reached.done ++ es) next.1 ∙ sym (append_assoc reached.done (e ∷ []) next.0)
 
   pub event_later : w.line < e.0
   event_later = let r = rising.0 in omega (arith, r)
@@ -144,37 +149,51 @@ module _ (s : Schedule) (served : IsServed s) (i : ℕ) (w : Running) (held : Te
   pub event_fair : IsFair e.1
   event_fair = each_slice_get (λ (x : ℕ × Event). IsFair x.1) s.events i e served.suited.fair at
 
-  on : StandsOn s.config after.done e.0 e.1 (step w.world e.0 e.1)
-  on =
-      let good : IsGood s.config (after.done ++ e ∷ []) = good_front s.config (after.done ++ e ∷ []) next.0 (subst (IsGood s.config) split served.good) in
-      let place = after.place in let late = after.late in let later = event_later in let low = event_bounded in
-      worlds_follow s.config after.done e.0 e.1 w.world served.keeps good (omega (arith, place, late, later, low)) after.stands.stands
+  good : IsGood s.config (reached.done ++ e ∷ [])
+  good = good_front s.config (reached.done ++ e ∷ []) next.0 (subst (IsGood s.config) split served.good)
 
-  pub after_next : (v : Running) (left : Text) (now : Option (List ℕ)) → v.world ≡ (step w.world e.0 e.1).world → v.summary ≡ summed_on (step w.world e.0 e.1) w.summary → v.line ≡ e.0 → v.spent ≡ false
-      → Gathered (held ++ event_text w.world e.0 e.1) left mid now → After s (i + 1) v left before now
-  after_next v left now is summary line unspent gathered = record {
-    done = after.done ++ e ∷ [];
+  on : StandsOn s.config reached.done e.0 e.1 (step w.world e.0 e.1)
+  on =
+      let place = reached.place in let late = reached.late in let later = event_later in let low = event_bounded in
+      worlds_follow s.config reached.done e.0 e.1 w.world served.keeps good (omega (arith, place, late, later, low)) reached.stands.stands
+
+  -- a world that stands for the events so far and this one
+  abbrev pub reached_next : (v : Running) → v.line ≡ e.0 → StandsFor s.config (reached.done ++ e ∷ []) v → Reached s (i + 1) v
+  reached_next v line stands = record {
+    done = reached.done ++ e ∷ [];
     rest = next.0;
     split = split;
-    place = length-append after.done (e ∷ []) ∙ ap (λ n. n + 1) after.place;
-    late = let late = after.late in let later = event_later in omega (arith, line, late, later);
+    place = length-append reached.done (e ∷ []) ∙ ap (λ n. n + 1) reached.place;
+    late = let late = reached.late in let later = event_later in omega (arith, line, late, later);
     rising = subst (λ n. IsRisingFrom (n + 1) next.0) (sym line) rising.1;
-    stands = stands_next s.config after.done e.0 e.1 w v after.stands on is summary line unspent;
-    gathered = subst (λ (t : Text). Gathered t left before now) (sym (text_next s after.done e.0 e.1 w.world on))
-        (gathered_on (text_of_events s after.done) held (event_text w.world e.0 e.1) before mid now after.gathered left gathered);
+    stands = stands;
   }
 
-  pub front_next : (now : Option (List ℕ)) → WroteFront (held ++ event_text w.world e.0 e.1) mid now → WroteFront (transcript s) before now
-  front_next now front =
-      let more = text_begins s (after.done ++ e ∷ []) next.0 served split in
-      subst (λ (t : Text). WroteFront t before now) (sym more.1)
-      (front_wider (text_of_events s (after.done ++ e ∷ [])) more.0 before now (subst (λ (t : Text). WroteFront t before now) (sym (text_next s after.done e.0 e.1 w.world on))
-      (front_on (text_of_events s after.done) held (event_text w.world e.0 e.1) before mid now after.gathered front)))
+  -- by what an event promises of a world that stands for others
+  pub reached_by : (v : Running) → v.line ≡ e.0
+      → ((config : Config) (events : List (ℕ × Event)) → IsGood config (events ++ e ∷ []) → StandsFor config events w → StandsFor config (events ++ e ∷ []) v)
+      → Reached s (i + 1) v
+  reached_by v line stands = reached_next v line (stands s.config reached.done good reached.stands)
+
+  module _ (held : Text) (before mid : Option (List ℕ)) (gathered : Gathered (text_of_events s reached.done) held before mid) where
+    pub after_next : (v : Running) (left : Text) (now : Option (List ℕ)) → v.world ≡ (step w.world e.0 e.1).world → v.summary ≡ summed_on (step w.world e.0 e.1) w.summary → v.line ≡ e.0 → v.spent ≡ false
+        → Gathered (held ++ event_text w.world e.0 e.1) left mid now → After s (i + 1) v left before now
+    after_next v left now is summary line unspent more = record {
+      reached = reached_next v line (stands_next s.config reached.done e.0 e.1 w v reached.stands on is summary line unspent);
+      gathered = subst (λ (t : Text). Gathered t left before now) (sym (text_next s reached.done e.0 e.1 w.world on))
+          (gathered_on (text_of_events s reached.done) held (event_text w.world e.0 e.1) before mid now gathered left more);
+    }
+
+    pub front_next : (now : Option (List ℕ)) → WroteFront (held ++ event_text w.world e.0 e.1) mid now → WroteFront (transcript s) before now
+    front_next now front =
+        let more = text_begins s (reached.done ++ e ∷ []) next.0 served split in
+        subst (λ (t : Text). WroteFront t before now) (sym more.1)
+        (front_wider (text_of_events s (reached.done ++ e ∷ [])) more.0 before now (subst (λ (t : Text). WroteFront t before now) (sym (text_next s reached.done e.0 e.1 w.world on))
+        (front_on (text_of_events s reached.done) held (event_text w.world e.0 e.1) before mid now gathered front)))
 
 -- ---- the beginning and the end
-pub after_none : (s : Schedule) (w : Running) (held : Text) (before : Option (List ℕ)) → IsServed s → w ≡ opened s.config → held ≡ s.header → After s 0 w held before before
-unfolding text_of_events
-after_none s w held before served first is = record {
+abbrev pub reached_none : (s : Schedule) (w : Running) → IsServed s → w ≡ opened s.config → Reached s 0 w
+reached_none s w served first = record {
   done = [];
   rest = s.events;
   split = refl;
@@ -182,6 +201,12 @@ after_none s w held before served first is = record {
   late = omega arith;
   rising = subst (λ (x : Running). IsRisingFrom (x.line + 1) s.events) (sym first) served.good.rising;
   stands = subst (StandsFor s.config []) (sym first) (stands_for_none s.config served.keeps);
+}
+
+pub after_none : (s : Schedule) (w : Running) (held : Text) (before : Option (List ℕ)) → IsServed s → w ≡ opened s.config → held ≡ s.header → After s 0 w held before before
+unfolding text_of_events
+after_none s w held before served first is = record {
+  reached = reached_none s w served first;
   gathered = record { gone = []; split = append-nil s.header ∙ sym is; written = added_none before };
 }
 
@@ -189,26 +214,41 @@ all_done : (done rest : List (ℕ × Event)) → length done ≡ length (done ++
 all_done done [] long = append-nil done
 all_done done (e ∷ rest) long = absurd (let n : length (done ++ e ∷ rest) ≡ length done + length (e ∷ rest) = length-append done (e ∷ rest) in omega (arith, n, long))
 
+-- the world that has reached the last event stands for all
+pub reached_last : (s : Schedule) (w : Running) → Reached s (length s.events) w → StandsFor s.config s.events w
+reached_last s w reached =
+    subst (λ es. StandsFor s.config es w) (sym (reached.split ∙ all_done reached.done reached.rest (reached.place ∙ ap length reached.split))) reached.stands
+
+-- the same at the end of a loop over them
+pub reached_end : (s : Schedule) (items : List (ℕ × Event)) (i : ℕ) (w : Running) → items ≡ s.events → length items ≤ i → i ≤ length items → Reached s i w → StandsFor s.config s.events w
+reached_end s items i w same low high reached =
+    let long : length items ≡ length s.events = ap length same in
+    let last : i ≡ length s.events = omega (arith, long) in
+    reached_last s w (subst (λ n. Reached s n w) last reached)
+
 module _ (s : Schedule) (served : IsServed s) (w : Running) (held : Text) (before mid : Option (List ℕ)) (after : After s (length s.events) w held before mid) where
-  done_is : s.events ≡ after.done
-  done_is = after.split ∙ all_done after.done after.rest (after.place ∙ ap length after.split)
+  abbrev done : List (ℕ × Event)
+  done = after.reached.done
+
+  done_is : s.events ≡ done
+  done_is = after.reached.split ∙ all_done done after.reached.rest (after.reached.place ∙ ap length after.reached.split)
 
   pub stands_at_last : StandsFor s.config s.events w
-  stands_at_last = subst (λ es. StandsFor s.config es w) (sym done_is) after.stands
+  stands_at_last = reached_last s w after.reached
 
   -- the text of all events and the history are the transcript
-  whole : text_of_events s after.done ++ history_text w.world.history ≡ transcript s
+  whole : text_of_events s done ++ history_text w.world.history ≡ transcript s
   unfolding text_of_events
   whole =
-      let a : Account = account_of_latest s.config after.done in
+      let a : Account = account_of_latest s.config done in
       append_assoc s.header (flat_map line_text a.lines) (history_text w.world.history)
-      ∙ ap (λ (h : List Entry). s.header ++ (flat_map line_text a.lines ++ history_text h)) after.stands.stands.history
+      ∙ ap (λ (h : List Entry). s.header ++ (flat_map line_text a.lines ++ history_text h)) after.reached.stands.stands.history
       ∙ ap (λ (t : Text). s.header ++ t) (sym (account_text_is a))
       ∙ ap (λ es. s.header ++ account_text (account_of_latest s.config es)) (sym done_is)
       ∙ sym (transcript_by_latest s served)
 
   pub all_written : (now : Option (List ℕ)) → Added (held ++ history_text w.world.history) mid now → Added (transcript s) before now
-  all_written now added = subst (λ (t : Text). Added t before now) whole (gathered_all (text_of_events s after.done) held (history_text w.world.history) before mid now after.gathered added)
+  all_written now added = subst (λ (t : Text). Added t before now) whole (gathered_all (text_of_events s done) held (history_text w.world.history) before mid now after.gathered added)
 
   pub front_written : (now : Option (List ℕ)) → WroteFront (held ++ history_text w.world.history) mid now → WroteFront (transcript s) before now
-  front_written now front = subst (λ (t : Text). WroteFront t before now) whole (front_on (text_of_events s after.done) held (history_text w.world.history) before mid now after.gathered front)
+  front_written now front = subst (λ (t : Text). WroteFront t before now) whole (front_on (text_of_events s done) held (history_text w.world.history) before mid now after.gathered front)

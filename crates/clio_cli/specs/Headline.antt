@@ -1,26 +1,31 @@
--- What every history that is printed keeps.
-use Rattle.std.specs.Prelude.{◌≡◌, ℕ, List, Ok}
+-- What every history that is printed keeps, and what a command that succeeds leaves.
+use Rattle.std.specs.Prelude.{◌≡◌, ℕ, List, Ok, Option, Some}
 use Rattle.std.specs.List.{AllByRecursion as Each}
 use Rattle.cl_outside.specs.Told.{Added}
 use Rattle.cl_types.specs.declared.config.Config.{Config}
 use Rattle.cl_types.specs.declared.schedule.Schedule.{Schedule}
 use Rattle.trace.specs.Account.{Account, Frame}
 use Rattle.trace.specs.Events.{account, account_of_latest}
+use Rattle.texts.specs.Commands.{Command, Replay, Check, Storm, command_in}
 use Rattle.texts.specs.Grammar.{schedule_of}
+use Rattle.texts.specs.Text.{Text}
 use Rattle.trace.specs.Properties.{Once, Ordered, Peeks, Stands}
 use Rattle.flat_model.specs.Run.{IsRun}
-use Rattle.trace_texts.specs.Transcripts.{transcript}
+use Rattle.history_check.specs.declared.history.Verdict.TheVariants.{Run}
 use Rattle.history_laws.specs.Ends.{AddsUp}
+use Rattle.storm_gen.specs.Generated.{generated}
 use Rattle.trace_laws.specs.Spelled.{SpellsLoad}
 use Rattle.trace_laws.specs.Times.{AreOfAge}
+use Rattle.trace_texts.specs.Transcripts.{transcript}
+use Rattle.clio_cli.specs.Outputs.{History, IsCheckable, IsReplayable, storm_output, verdict_output}
 use Rattle.clio_cli.specs.Run.{IsInput, Outside}
 use Rattle.clio_cli.specs.Status.{number_of}
-use Rattle.clio_cli.specs.Verdict.{IsReplayable}
 use Rattle.world.specs.Follows.{StandsFor}
 use Rattle.world.specs.Running.{Running}
 use Rattle.clio_cli.specs.declared.left.Left.{Left}
 use Rattle.clio_cli.specs.declared.left.Left.TheVariants as left
 use Rattle.clio_cli.specs.declared.status.Status.TheVariants as status
+use Rattle.std.specs.Prelude.{length}
 
 -- what the account of a schedule keeps, of whose history the transcript has a line for each entry
 pub record Headline (config : Config) (a : Account) : Type 0 where
@@ -41,28 +46,54 @@ pub record Headline (config : Config) (a : Account) : Type 0 where
 abbrev pub LawOfHeadline : Type 0
 LawOfHeadline = (bytes : List ℕ) (s : Schedule) → schedule_of bytes ≡ Ok s → Headline s.config (account s.config s.events)
 
--- the transcript of the schedule that the input spells was written, whole, the account that it tells keeps the headline, and
--- the world that is left stands for the schedule's events
+-- the account of the schedule keeps the headline, and the world that is left stands for the schedule's events
+pub record Worked (s : Schedule) (kept : Left) : Type 0 where
+  pub headline : Headline s.config (account s.config s.events)
+  -- the bytes of each frame spell what the account says that it carries
+  pub frames : Each (λ (f : Frame). SpellsLoad f.bytes f.line f.load) (account s.config s.events).frames
+  -- as many calls were issued as are done, refused, timed out and unended together
+  pub counts : AddsUp s.config (account s.config s.events)
+  -- it is the account off which the world is read, whose node keeps its latest records alone
+  pub same : account s.config s.events ≡ account_of_latest s.config s.events
+  pub world : Running
+  pub left : kept ≡ left.Replayed world
+  pub stands : StandsFor s.config s.events world
+
+-- the transcript of the schedule that the input encodes was written, whole, and its events were worked
 pub record Replays (before after : Outside) (kept : Left) : Type 0 where
   pub bytes : List ℕ
   pub input : IsInput bytes before.left after.left
   pub schedule : Schedule
   pub replayable : IsReplayable bytes schedule
   pub printed : Added (transcript schedule) before.written after.written
-  pub headline : Headline schedule.config (account schedule.config schedule.events)
-  -- the bytes of each frame spell what the account says that it carries
-  pub frames : Each (λ (f : Frame). SpellsLoad f.bytes f.line f.load) (account schedule.config schedule.events).frames
-  -- as many calls were issued as are done, refused, timed out and unended together
-  pub counts : AddsUp schedule.config (account schedule.config schedule.events)
-  -- it is the account off which the world is read, whose node keeps its latest records alone
-  pub same : account schedule.config schedule.events ≡ account_of_latest schedule.config schedule.events
-  pub world : Running
-  pub left : kept ≡ left.Replayed world
-  pub stands : StandsFor schedule.config schedule.events world
+  pub worked : Worked schedule kept
 
--- with the status of success this came about
-abbrev pub EndsInHeadline : Outside → Outside → Left → ℕ → Type 0
-EndsInHeadline before after kept number = number ≡ number_of status.Ok → Replays before after kept
+-- the history that the input encodes is a run, which was written, and nothing is left
+pub record Checks (before after : Outside) (kept : Left) : Type 0 where
+  pub bytes : List ℕ
+  pub input : IsInput bytes before.left after.left
+  pub history : History
+  pub checkable : IsCheckable bytes history
+  pub run : IsRun history.0.node history.1
+  pub printed : Added (verdict_output (length history.1) Run).text before.written after.written
+  pub left : kept ≡ left.Nothing
+
+-- what the generated schedule comes to was written, whole, its events were worked, and the source was left
+pub record Storms (seed calls : ℕ) (before after : Outside) (kept : Left) : Type 0 where
+  pub unread : after.left ≡ before.left
+  pub printed : Added (storm_output seed calls).text before.written after.written
+  pub worked : Worked (generated seed calls) kept
+
+-- with success this came about, by the command
+abbrev pub Succeeds : Option Command → Outside → Outside → Left → Type 0
+Succeeds (Some Replay) before after kept = Replays before after kept
+Succeeds (Some Check) before after kept = Checks before after kept
+Succeeds (Some (Storm seed calls)) before after kept = Storms seed calls before after kept
+Succeeds other before after kept = ⊥
+
+-- the same, of a command line and the number of its status
+abbrev pub EndsInHeadline : List Text → Outside → Outside → Left → ℕ → Type 0
+EndsInHeadline words before after kept number = number ≡ number_of status.Ok → Succeeds (command_in words) before after kept
 
 -- with any other status nothing is left
 abbrev pub LeavesNothing : Left → ℕ → Type 0

@@ -1,6 +1,6 @@
 pub mod Words
 pub mod Status
-pub mod Verdict
+pub mod Outputs
 pub mod Run
 pub mod Suited
 pub mod Headline

@@ -1,4 +1,4 @@
--- The loop over the events of a schedule. No public clause cites this module.
+-- Working the events of a schedule, with and without their text. No public clause cites this module.
 use Rattle.std.specs.Prelude.{◌≡◌, ℕ, ◌+◌, ◌≤◌, List, [], ◌∷◌, ◌++◌, Option, codes, decimal, flat_map, length}
 use Rattle.cl_outside.specs.Counts.{LastFailed, NoneFailed}
 use Rattle.cl_outside.specs.Loops.{WroteFront}
@@ -48,8 +48,8 @@ pub record IsServed (s : Schedule) : Type 0 where
   pub suited : IsSuited s
   pub keeps : 1 ≤ s.config.node.retry
 
--- after i of the events: the world stands for them, and of their text all but what is held was written
-pub record After (s : Schedule) (i : ℕ) (w : Running) (held : Text) (before now : Option (List ℕ)) : Type 0 where
+-- after i of the events the world stands for them
+pub record Reached (s : Schedule) (i : ℕ) (w : Running) : Type 0 where
   pub done : List (ℕ × Event)
   pub rest : List (ℕ × Event)
   pub split : s.events ≡ done ++ rest
@@ -57,16 +57,20 @@ pub record After (s : Schedule) (i : ℕ) (w : Running) (held : Text) (before no
   pub late : i ≤ w.line
   pub rising : IsRisingFrom (w.line + 1) rest
   pub stands : StandsFor s.config done w
-  pub gathered : Gathered (text_of_events s done) held before now
 
--- how a replay ends, by what the sink was given and which writes failed: whole with the world that stands for the events, or
--- cut, and then nothing is left
-abbrev pub Plays : Schedule → (before after : Option (List ℕ)) → (faults faults_after : Faults) → Left → Status → Type 0
-Plays s before after faults faults_after kept status.Ok =
-    Added (transcript s) before after × NoneFailed faults faults_after
+-- and of their text all but what is held was written
+pub record After (s : Schedule) (i : ℕ) (w : Running) (held : Text) (before now : Option (List ℕ)) : Type 0 where
+  pub reached : Reached s i w
+  pub gathered : Gathered (text_of_events s reached.done) held before now
+
+-- how working a schedule ends, by what the sink was given of its text and which writes failed: whole, with the world that
+-- stands for the events, or cut, and then nothing is left
+abbrev pub Plays : Schedule → Text → (before after : Option (List ℕ)) → (faults faults_after : Faults) → Left → Status → Type 0
+Plays s text before after faults faults_after kept status.Ok =
+    Added text before after × NoneFailed faults faults_after
     × (w : Running) × (kept ≡ left.Replayed w) × StandsFor s.config s.events w
-Plays s before after faults faults_after kept status.WriteFault =
-    WroteFront (transcript s) before after × LastFailed faults faults_after × (kept ≡ left.Nothing)
-Plays s before after faults faults_after kept status.NoMemory =
-    WroteFront (transcript s) before after × NoneFailed faults faults_after × (kept ≡ left.Nothing)
-Plays s before after faults faults_after kept other = ⊥
+Plays s text before after faults faults_after kept status.WriteFault =
+    WroteFront text before after × LastFailed faults faults_after × (kept ≡ left.Nothing)
+Plays s text before after faults faults_after kept status.NoMemory =
+    WroteFront text before after × NoneFailed faults faults_after × (kept ≡ left.Nothing)
+Plays s text before after faults faults_after kept other = ⊥

@@ -11,5 +11,6 @@ number_of status.BadInput = 2
 number_of status.ReadFault = 3
 number_of status.WriteFault = 4
 number_of status.NoMemory = 5
+number_of status.NotRun = 7
 number_of status.TooLong = 8
 number_of status.BadNode = 10

@@ -1,17 +1,20 @@
--- What a command line and its input ask for, and how serving it ends. No public clause cites this module.
-use Rattle.std.specs.Prelude.{◌≡◌, ℕ, true, List, Option, Some, None, IsTrue, Result, Err}
+-- What a command asks of its input, and how serving it ends. No public clause cites this module.
+use Rattle.std.specs.Prelude.{◌≡◌, ◌⊎◌, ℕ, List, Option, Some, None, Result, Ok, Err}
 use Rattle.cl_outside.specs.Counts.{LastFailed, NoneFailed}
+use Rattle.cl_outside.specs.Loops.{WroteFront}
+use Rattle.cl_outside.specs.Told.{Added}
 use Rattle.cl_outside.specs.declared.faults.Faults.{Faults}
-use Rattle.cl_types.specs.declared.schedule.Schedule.{Schedule}
-use Rattle.texts.specs.Commands.{command_in}
-use Rattle.texts.specs.Text.{Text}
-use Rattle.flat_model.specs.Opening.{open_fault}
 use Rattle.cl_types.specs.declared.open_fault.OpenFault.{OpenFault}
+use Rattle.cl_types.specs.declared.schedule.Schedule.{Schedule}
+use Rattle.flat_model.specs.Opening.{open_fault}
+use Rattle.schedule_text.specs.declared.fault.ScheduleFault.{ScheduleFault}
+use Rattle.texts.specs.Commands.{Command}
+use Rattle.texts.specs.Grammar.{Fault, schedule_of}
+use Rattle.texts.specs.Texts.{fault_line, open_fault_line}
 use Rattle.world.specs.Follows.{opened}
-use Rattle.clio_cli.specs.Headline.{Replays}
-use Rattle.clio_cli.specs.Run.{Ends, IsInput, Outside, Wants, WantsBy}
-use Rattle.clio_cli.specs.Verdict.{Verdict, IsRefusal, IsReplayable, verdict, verdict_at_opening}
-use Rattle.clio_cli.specs.Words.{is_built_command}
+use Rattle.clio_cli.specs.Headline.{Succeeds}
+use Rattle.clio_cli.specs.Outputs.{AnswersInput, AsksVerdict, History, IsReplayable, history_node, schedule_node, too_long_text}
+use Rattle.clio_cli.specs.Run.{Ends, Gave, IsInput, IsTooMany, Outside}
 use Rattle.clio_cli.specs.declared.judge.Output.{Output}
 use Rattle.clio_cli.specs.declared.judge.Wanted.{Wanted}
 use Rattle.clio_cli.specs.declared.judge.Wanted.TheVariants as wanted
@@ -19,51 +22,75 @@ use Rattle.clio_cli.specs.declared.left.Left.{Left}
 use Rattle.clio_cli.specs.declared.left.Left.TheVariants as left
 use Rattle.clio_cli.specs.declared.status.Status.{Status}
 use Rattle.clio_cli.specs.declared.status.Status.TheVariants as status
-use Rattle.clio_cli.specs.declared.top.Halt.{Halt}
-use Rattle.clio_cli.specs.declared.top.Halt.TheVariants as halt
+use Rattle.clio_cli.specs.declared.input.Halt.{Halt}
+use Rattle.clio_cli.specs.declared.input.Halt.TheVariants as halt
+use Rattle.clio_cli.specs.declared.input.Input.{Input}
+use Rattle.clio_cli.specs.declared.input.Input.TheVariants as input
 
--- the verdict of an output
-abbrev pub verdict_of : Output → Verdict
-verdict_of output = record { text = output.text; status = output.status }
+-- ---- refusals
+-- the output on a bad line
+abbrev pub bad_line_output : Fault → Output
+bad_line_output fault = record { text = fault_line fault; status = status.BadInput }
 
--- the output is this verdict, and tells why nothing is replayed
-abbrev pub Refuses : Verdict → Output → Type 0
-Refuses v output = (verdict_of output ≡ v) × IsRefusal output.status
+-- the output on an input that is too long
+abbrev pub too_long_output : ScheduleFault → Output
+too_long_output fault = record { text = too_long_text fault; status = status.TooLong }
 
--- a schedule asks for this: a replay where its node opens, or the text that tells why it doesn't
+-- the output on a node that doesn't open
+abbrev pub bad_node_output : OpenFault → Output
+bad_node_output fault = record { text = open_fault_line fault; status = status.BadNode }
+
+-- these bytes are no schedule that is replayed, and the output is why
+abbrev pub RefusesReplay : List ℕ → Output → Type 0
+RefusesReplay bytes output = AnswersInput Schedule schedule_of schedule_node (λ s o. ⊥) bytes output
+
+-- ---- a replay
+-- a schedule asks for this: a replay where its node opens, or the output that tells why it doesn't
 abbrev pub IsOpened : Schedule → Wanted → Type 0
-IsOpened s (wanted.Told output) =
-    (fault : OpenFault) × (open_fault s.config.node ≡ Some fault) × Refuses (verdict_at_opening s (Some fault)) output
+IsOpened s (wanted.Refused output) = (fault : OpenFault) × (open_fault s.config.node ≡ Some fault) × (output ≡ bad_node_output fault)
 IsOpened s (wanted.Opened schedule world) = (schedule ≡ s) × (open_fault s.config.node ≡ None) × (world ≡ opened s.config)
 
--- these bytes ask for this: the text of their verdict, or a replay of the schedule that they spell
-abbrev pub IsAsked : List ℕ → Wanted → Type 0
-IsAsked bytes (wanted.Told output) = Refuses (verdict bytes) output
-IsAsked bytes (wanted.Opened schedule world) = IsReplayable bytes schedule × (world ≡ opened schedule.config)
+-- these bytes ask for this: the output that tells why they are refused, or a replay of the schedule that they encode
+abbrev pub IsWantedBy : List ℕ → Wanted → Type 0
+IsWantedBy bytes (wanted.Refused output) = RefusesReplay bytes output
+IsWantedBy bytes (wanted.Opened schedule world) = IsReplayable bytes schedule × (world ≡ opened schedule.config)
 
 -- what a source gave asks for this
-abbrev pub AsksOf : Option (List ℕ) → Option (List ℕ) → Wanted → Type 0
-AsksOf before after (wanted.Told output) = WantsBy true before after (verdict_of output) × IsRefusal output.status
-AsksOf before after (wanted.Opened schedule world) =
+abbrev pub IsWantedOf : Option (List ℕ) → Option (List ℕ) → Wanted → Type 0
+IsWantedOf before after (wanted.Refused output) = (bytes : List ℕ) × Gave bytes before after × RefusesReplay bytes output
+IsWantedOf before after (wanted.Opened schedule world) =
     (bytes : List ℕ) × IsInput bytes before after × IsReplayable bytes schedule × (world ≡ opened schedule.config)
 
--- a command line asks for this of what its source gave
-abbrev pub Asks : List Text → Option (List ℕ) → Option (List ℕ) → Wanted → Type 0
-Asks words before after (wanted.Told output) = Wants words before after (verdict_of output) × IsRefusal output.status
-Asks words before after (wanted.Opened schedule world) =
-    IsTrue (is_built_command (command_in words)) × AsksOf before after (wanted.Opened schedule world)
+-- ---- a check
+-- the output on a history, by whether its node opens
+abbrev pub IsJudged : History → Output → Type 0
+IsJudged h output = ((open_fault (history_node h) ≡ None) × AsksVerdict h output)
+    ⊎ ((fault : OpenFault) × (open_fault (history_node h) ≡ Some fault) × (output ≡ bad_node_output fault))
+
+-- ---- an input
+-- what was taken off the source: all that it had, or too much
+abbrev pub IsTaken : Option (List ℕ) → Option (List ℕ) → Input → Type 0
+IsTaken before after (input.Whole bytes) = IsInput bytes.items before after
+IsTaken before after input.TooMany = (bytes : List ℕ) × IsTooMany bytes before after
 
 -- of the reads that were made the last alone failed, where one did, and else none
-abbrev pub CountsHalt : Faults → Faults → Result Wanted Halt → Type 0
+abbrev pub CountsHalt : {A : Type 0} → Faults → Faults → Result A Halt → Type 0
 CountsHalt before now (Err halt.ReadFault) = LastFailed before now
 CountsHalt before now other = NoneFailed before now
 
--- what is left: with success the world of the schedule that was replayed, and else nothing
-abbrev pub Keeps : Outside → Outside → Left → Status → Type 0
-Keeps before after kept status.Ok = Replays before after kept
-Keeps before after kept other = kept ≡ left.Nothing
+-- ---- the end
+-- the output was written, whole, and its status is the answer, or of all writes the last alone failed
+abbrev pub Says : Output → (before after : Option (List ℕ)) → (faults faults_after : Faults) → Status → Type 0
+Says output before after faults faults_after st =
+    ((st ≡ output.status) × Added output.text before after × NoneFailed faults faults_after)
+    ⊎ ((st ≡ status.WriteFault) × WroteFront output.text before after × LastFailed faults faults_after)
 
--- how a command line was served: with which status it ends, and what is left
-pub record Serves (words : List Text) (before after : Outside) (kept : Left) (st : Status) : Type 0 where
-  pub ends : Ends words before after st
-  pub keeps : Keeps before after kept st
+-- what is left: with success what the command worked with, and else nothing
+abbrev pub Keeps : Option Command → Outside → Outside → Left → Status → Type 0
+Keeps command before after kept status.Ok = Succeeds command before after kept
+Keeps command before after kept other = kept ≡ left.Nothing
+
+-- how a command was served: with which status it ends, and what is left
+pub record Serves (command : Option Command) (before after : Outside) (kept : Left) (st : Status) : Type 0 where
+  pub ends : Ends command before after st
+  pub keeps : Keeps command before after kept st

@@ -214,8 +214,8 @@ pub fn play<K: Sink>(
     requires served { IsServed schedule.now }
     requires opened { world ≡ opened schedule.now.config }
     requires nothing { left.old ≡ Left.Nothing }
-    ensures { Plays schedule.now (K.written sink.old) (K.written sink.new)
-        (K.faults sink.old) (K.faults sink.new) left.new result }
+    ensures { Plays schedule.now (transcript schedule.now) (K.written sink.old)
+        (K.written sink.new) (K.faults sink.old) (K.faults sink.new) left.new result }
 {
     let mut world = world;
     match write_transcript(alloc, schedule, &mut world, sink) {

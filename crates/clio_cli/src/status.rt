@@ -16,8 +16,10 @@ pub enum Status {
     ReadFault,
     /// A write failed.
     WriteFault,
-    /// There was no memory.
+    /// An allocation failed.
     NoMemory,
+    /// The history that was checked is no run.
+    NotRun,
     /// The input has too many bytes or lines.
     TooLong,
     /// The node doesn't open.
@@ -36,6 +38,7 @@ impl Status {
             Status::ReadFault => 3,
             Status::WriteFault => 4,
             Status::NoMemory => 5,
+            Status::NotRun => 7,
             Status::TooLong => 8,
             Status::BadNode => 10,
         }

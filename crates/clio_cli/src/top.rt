@@ -1,74 +1,92 @@
 //! The top call.
 
-ghost use Rattle.std.specs.Prelude.{◌≡◌, ◌+◌, IfOk, IsErrOf, IsTrue};
+ghost use Rattle.std.specs.Prelude.{◌≡◌, ◌+◌, IfOk, IsErrOf, Some};
 ghost use Rattle.cl_outside.specs.Loops.{TookUpTo};
-ghost use Rattle.texts.specs.Commands.{command_in};
-ghost use Rattle.clio_cli.specs.Run.{Takes, outside};
+ghost use Rattle.texts.specs.Commands.{Check, Replay, command_in};
+ghost use Rattle.cl_types.specs.declared.limits.TheConstants.{INPUT_BYTES};
+ghost use Rattle.clio_cli.specs.Outputs.{bad_words};
+ghost use Rattle.clio_cli.specs.Run.{Asks, outside};
 ghost use Rattle.clio_cli.specs.Runs.{Runs};
-ghost use Rattle.clio_cli.specs.Wanted.{Asks, AsksOf, CountsHalt, Serves};
-ghost use Rattle.clio_cli.specs.Words.{is_built_command};
+ghost use Rattle.clio_cli.specs.Wanted.{CountsHalt, IsWantedOf, Says, Serves};
 
-use crate::judge::{Wanted, judge, output_of, too_many};
+use crate::input::{Halt, Input, take_input};
+use crate::judge::{Output, Wanted, judge, judge_history, too_many};
 use crate::left::Left;
 use crate::replay::play;
+use crate::say::say;
 use crate::status::Status;
-use crate::words::Words;
-use cl_outside::{Sink, Source, Stop, read_input, write_all};
-use cl_types::items::NoMemory;
-use cl_types::limits::INPUT_BYTES;
+use crate::storm::storm;
+use crate::words::{Asked, Words};
+use cl_outside::{Sink, Source, write_all};
 use std::alloc::Global;
 
-/// Why nothing is to be written.
-#[derive(Clone, Copy)]
-enum Halt {
-    /// A read failed: the source's count of faults rose.
-    ReadFault,
-    /// There was no memory.
-    NoMemory,
-}
-
-impl From<NoMemory> for Halt {
-    ghost use Rattle.std.specs.Prelude.{◌≡◌};
-    ghost use Rattle.clio_cli.specs.declared.top.Halt.TheVariants.{NoMemory};
-
-    ghost from_gives = { λ _ halt. halt ≡ NoMemory };
-
-    fn from(_error: NoMemory) -> Self {
-        Halt::NoMemory
-    }
-}
-
-// What the bytes of a source ask for.
-fn asked<S: Source>(alloc: Global, source: &mut S) -> Result<Wanted, Halt>
-    ensures asked { IfOk result (AsksOf (S.left source.old) (S.left source.new)) }
+// What the bytes of a source ask of a replay.
+fn wanted<S: Source>(alloc: Global, source: &mut S) -> Result<Wanted, Halt>
+    ensures wanted { IfOk result (IsWantedOf (S.left source.old) (S.left source.new)) }
     ensures counted { CountsHalt (S.faults source.old) (S.faults source.new) result }
     ensures taken { TookUpTo (INPUT_BYTES + 1) (S.left source.old) (S.left source.new) }
     ensures within { IsErrOf result Halt.ReadFault
         → TookUpTo INPUT_BYTES (S.left source.old) (S.left source.new) }
 {
-    match read_input(alloc, source) {
-        Ok(bytes) => Ok(judge(alloc, &bytes)?),
-        Err(Stop::ReadFault) => Err(Halt::ReadFault),
-        Err(Stop::TooLong) => Ok(Wanted::Told(too_many(alloc, true, INPUT_BYTES as u32 + 1)?)),
-        Err(Stop::NoMemory) => Err(Halt::NoMemory),
-        Err(Stop::WriteFault) => unreachable!(),
+    match take_input(alloc, source)? {
+        Input::Whole(bytes) => Ok(judge(alloc, &bytes)?),
+        Input::TooMany => Ok(Wanted::Refused(too_many(alloc)?)),
     }
 }
 
-// What a command line asks for.
-fn wanted<S: Source>(alloc: Global, words: &Words, source: &mut S) -> Result<Wanted, Halt>
-    ensures asked { IfOk result (Asks words.now (S.left source.old) (S.left source.new)) }
+// The output of a check of what a source gives.
+fn checked<S: Source>(alloc: Global, source: &mut S) -> Result<Output, Halt>
+    ensures checked { IfOk result (Asks (Some Check) (S.left source.old) (S.left source.new)) }
     ensures counted { CountsHalt (S.faults source.old) (S.faults source.new) result }
-    ensures fault { IsErrOf result Halt.ReadFault
-        → IsTrue (is_built_command (command_in words.now)) }
-    ensures taken { Takes words.now (INPUT_BYTES + 1) (S.left source.old) (S.left source.new) }
+    ensures taken { TookUpTo (INPUT_BYTES + 1) (S.left source.old) (S.left source.new) }
     ensures within { IsErrOf result Halt.ReadFault
         → TookUpTo INPUT_BYTES (S.left source.old) (S.left source.new) }
 {
-    if !words.are_built() {
-        return Ok(Wanted::Told(output_of(alloc, b"bad words\n", Status::BadWords)?));
+    match take_input(alloc, source)? {
+        Input::Whole(bytes) => Ok(judge_history(alloc, &bytes)?),
+        Input::TooMany => Ok(too_many(alloc)?),
     }
-    asked(alloc, source)
+}
+
+// Serves `replay`.
+fn serve_replay<S: Source, K: Sink>(alloc: Global, source: &mut S, sink: &mut K, left: &mut Left) -> Status
+    requires nothing { left.old ≡ Left.Nothing }
+    ensures { Serves (Some Replay)
+        (outside (S.left source.old) (S.faults source.old) (K.written sink.old) (K.faults sink.old))
+        (outside (S.left source.new) (S.faults source.new) (K.written sink.new) (K.faults sink.new))
+        left.new result }
+{
+    match wanted(alloc, source) {
+        Ok(Wanted::Refused(output)) => say(sink, &output),
+        Ok(Wanted::Opened(schedule, world)) => play(alloc, &schedule, world, sink, left),
+        Err(Halt::ReadFault) => Status::ReadFault,
+        Err(Halt::NoMemory) => Status::NoMemory,
+    }
+}
+
+// Serves `check`, which leaves nothing.
+fn serve_check<S: Source, K: Sink>(alloc: Global, source: &mut S, sink: &mut K) -> Status
+    ensures { Serves (Some Check)
+        (outside (S.left source.old) (S.faults source.old) (K.written sink.old) (K.faults sink.old))
+        (outside (S.left source.new) (S.faults source.new) (K.written sink.new) (K.faults sink.new))
+        Left.Nothing result }
+{
+    match checked(alloc, source) {
+        Ok(output) => say(sink, &output),
+        Err(Halt::ReadFault) => Status::ReadFault,
+        Err(Halt::NoMemory) => Status::NoMemory,
+    }
+}
+
+// Tells that the words are no command.
+fn refuse_words<K: Sink>(sink: &mut K) -> Status
+    ensures { Says bad_words (K.written sink.old) (K.written sink.new)
+        (K.faults sink.old) (K.faults sink.new) result }
+{
+    match write_all(sink, b"bad words\n") {
+        Ok(()) => Status::BadWords,
+        Err(_) => Status::WriteFault,
+    }
 }
 
 // Serves a command line.
@@ -80,19 +98,16 @@ fn serve<S: Source, K: Sink>(
     left: &mut Left,
 ) -> Status
     requires nothing { left.old ≡ Left.Nothing }
-    ensures { Serves words.now
+    ensures { Serves (command_in words.now)
         (outside (S.left source.old) (S.faults source.old) (K.written sink.old) (K.faults sink.old))
         (outside (S.left source.new) (S.faults source.new) (K.written sink.new) (K.faults sink.new))
         left.new result }
 {
-    match wanted(alloc, words, source) {
-        Ok(Wanted::Told(output)) => match write_all(sink, output.text.as_slice()) {
-            Ok(()) => output.status,
-            Err(_) => Status::WriteFault,
-        },
-        Ok(Wanted::Opened(schedule, world)) => play(alloc, &schedule, world, sink, left),
-        Err(Halt::ReadFault) => Status::ReadFault,
-        Err(Halt::NoMemory) => Status::NoMemory,
+    match words.meaning() {
+        None => refuse_words(sink),
+        Some(Asked::Replay) => serve_replay(alloc, source, sink, left),
+        Some(Asked::Check) => serve_check(alloc, source, sink),
+        Some(Asked::Storm { seed, calls }) => storm(alloc, seed, calls, sink, left),
     }
 }
 

@@ -5,12 +5,13 @@ use Rattle.std.proofs.lemmas.Bool.Decides.{nat_tests}
 use Rattle.std.specs.List.{AllByRecursion as Each, enumerate_from}
 use Rattle.rand_pcg.specs.Lcg.{Lcg}
 use Rattle.cl_types.specs.Ranges.{is_typed, is_typed_call}
+use Rattle.cl_types.specs.declared.limits.TheConstants.{LINES_END}
 use Rattle.cl_types.specs.declared.schedule.CallText.{CallText}
 use Rattle.cl_types.specs.declared.schedule.Event.{Event}
 use Rattle.cl_types.specs.declared.schedule.Event.TheVariants as event
-use Rattle.trace.specs.Schedules.{IsRisingFrom, has_client, is_of_clients}
-use Rattle.lemmas.proofs.Lists.{each_append}
-use Rattle.storm_gen.specs.Suitable.{IsPlain}
+use Rattle.trace.specs.Schedules.{IsClient, IsRisingFrom, has_client, is_of_clients}
+use Rattle.lemmas.proofs.Lists.{each_append, each_enumerate, each_weaker}
+use Rattle.storm_gen.specs.Suitable.{GeneratedSuit, IsPlain}
 use Rattle.storm_gen.specs.declared.choice.Choice.{Choice}
 use Rattle.storm_gen.specs.Generated.{Drawn, allocates, call_drawn, called, choice, config, deliveries, draw, frame_drawn, frames_drawn, polls, repeat_of, round, rounds, settle, settles, tick_of, events_drawn, generator}
 use Rattle.storm_gen.specs.declared.limits.TheConstants.{MOST_CALLS, MOST_EVENTS}
@@ -193,3 +194,35 @@ length-events_drawn seed calls few =
     let settled : length (settles 64) ≡ 13 * 64 = length-settles 64 in
     let joined : length (first ++ drawn) ≡ 16 + length drawn = length-append first drawn in
     rw (length-append (first ++ drawn) (settles 64)) (omega arith)
+
+-- ---- the whole
+-- each generated schedule suits a world
+pub generated_suit : GeneratedSuit
+generated_suit seed calls few =
+    let drawn = events_drawn seed calls in
+    let ordinary : Each IsOrdinary drawn = ordinary_drawn seed calls in
+    let all : length drawn ≤ MOST_EVENTS = length-events_drawn seed calls few in
+    let typed : Each (λ (e : Event). is_typed e ≡ true) drawn = each_weaker IsOrdinary _ (λ e o. o.typed) drawn ordinary in
+    let known : Each (λ (e : Event). is_of_clients config.clients e ≡ true) drawn
+    = each_weaker IsOrdinary _ (λ e o. o.known) drawn ordinary in
+    let plain : Each IsPlain drawn = each_weaker IsOrdinary IsPlain (λ e o. o.plain) drawn ordinary in
+    let client : (n pid : ℕ) → n < 5 → (1 ≤ pid) × (pid ≤ 2) → IsClient (record { 0 = n }, pid)
+    = λ n pid low process. record { number = omega arith; process = (process.0, omega arith) } in
+    record {
+      good = record {
+        rising = rises 1 6 drawn (omega arith);
+        typed = each_enumerate _ 6 drawn typed;
+        known = each_enumerate _ 6 drawn known;
+        clients = (
+          client 1 1 (omega arith) (omega arith, omega arith),
+          (
+            client 2 1 (omega arith) (omega arith, omega arith),
+            (client 3 2 (omega arith) (omega arith, omega arith), (client 4 2 (omega arith) (omega arith, omega arith), tt)),
+          ),
+        );
+      };
+      bounded = numbers_below 6 LINES_END drawn (omega arith);
+      plain = each_enumerate IsPlain 6 drawn plain;
+      apart = (refl, (refl, (refl, (refl, tt))));
+      opens = refl;
+    }

@@ -1,24 +1,24 @@
-use Rattle.std.proofs.Common.{subst}
+use Rattle.std.proofs.Common.{◌∙◌, Some, ap, refl, subst, sym}
 use Rattle.clio_cli.specs.Run.{outside}
-use Rattle.clio_cli.specs.Wanted.{Asks}
-use Rattle.clio_cli.proofs.ServeLemmas.{plays_end, plays_keep, served_of}
+use Rattle.clio_cli.specs.Wanted.{Serves}
+use Rattle.clio_cli.specs.Words.{HasFewCalls, command_of}
+use Rattle.clio_cli.specs.declared.words.Asked.{Asked}
+use Rattle.clio_cli.proofs.ServeLemmas.{storm_serves, words_serve}
+use Rattle.clio_cli.proofs.StormLemmas.{generated_served}
 use Rattle.clio_cli.proofs.top.serve.Goals as goal
 
-pub play-requires-clause-served : goal.play-requires-clause-served
-play-requires-clause-served g c =
-    let asked = subst (Asks c.args.words.now (g.S.Source.left c.args.source.now) (g.S.Source.left c.wanted.new.source)) c.in-Ok-Opened.field-0-is c.in-Ok-Opened.ensures.asked in
-    served_of asked.1.0 c.in-Ok-Opened.schedule asked.1.2
+pub returns-in-None : goal.returns-in-None
+returns-in-None g c =
+    words_serve _
+    (outside (g.S.Source.left c.args.source.now) (g.S.Source.faults c.args.source.now) (g.K.Sink.written c.args.sink.now) (g.K.Sink.faults c.args.sink.now))
+    (outside (g.S.Source.left c.args.source.now) (g.S.Source.faults c.args.source.now) (g.K.Sink.written c.refuse_words.new.sink) (g.K.Sink.faults c.refuse_words.new.sink))
+    c.args.left.now c.in-None.ensures.asked refl refl c.requires.nothing c.refuse_words.result c.refuse_words.ensures
 
-pub returns-in-Ok-Opened : goal.returns-in-Ok-Opened
-returns-in-Ok-Opened g c =
-    let asked = subst (Asks c.args.words.now (g.S.Source.left c.args.source.now) (g.S.Source.left c.wanted.new.source)) c.in-Ok-Opened.field-0-is c.in-Ok-Opened.ensures.asked in
-    record {
-      ends = plays_end c.args.words.now
-          (outside (g.S.Source.left c.args.source.now) (g.S.Source.faults c.args.source.now) (g.K.Sink.written c.args.sink.now) (g.K.Sink.faults c.args.sink.now))
-          (outside (g.S.Source.left c.wanted.new.source) (g.S.Source.faults c.wanted.new.source) (g.K.Sink.written c.play.new.sink) (g.K.Sink.faults c.play.new.sink))
-          c.in-Ok-Opened.schedule c.in-Ok-Opened.world c.play.new.left asked c.in-Ok-Opened.ensures.counted c.play.result c.play.ensures;
-      keeps = plays_keep c.args.words.now
-          (outside (g.S.Source.left c.args.source.now) (g.S.Source.faults c.args.source.now) (g.K.Sink.written c.args.sink.now) (g.K.Sink.faults c.args.sink.now))
-          (outside (g.S.Source.left c.wanted.new.source) (g.S.Source.faults c.wanted.new.source) (g.K.Sink.written c.play.new.sink) (g.K.Sink.faults c.play.new.sink))
-          c.in-Ok-Opened.schedule c.in-Ok-Opened.world c.play.new.left asked c.in-Ok-Opened.ensures.counted c.play.result c.play.ensures;
-    }
+pub returns-in-Some-Storm : goal.returns-in-Some-Storm
+returns-in-Some-Storm g c =
+    let before = outside (g.S.Source.left c.args.source.now) (g.S.Source.faults c.args.source.now) (g.K.Sink.written c.args.sink.now) (g.K.Sink.faults c.args.sink.now) in
+    let after = outside (g.S.Source.left c.args.source.now) (g.S.Source.faults c.args.source.now) (g.K.Sink.written c.storm.new.sink) (g.K.Sink.faults c.storm.new.sink) in
+    let few = subst HasFewCalls c.in-Some-Storm.field-0-is c.in-Some-Storm.ensures.few in
+    let asked = c.in-Some-Storm.ensures.asked ∙ ap (λ (a : Asked). Some (command_of a)) c.in-Some-Storm.field-0-is in
+    subst (λ command. Serves command before after c.storm.new.left c.storm.result) (sym asked)
+    (storm_serves c.in-Some-Storm.seed c.in-Some-Storm.calls (generated_served c.in-Some-Storm.seed c.in-Some-Storm.calls few) before after c.storm.new.left refl refl c.storm.result c.storm.ensures)
