@@ -41,11 +41,10 @@ read_long bytes given e b n is reads = subst (λ e. Reads bytes given (Err e)) i
 pub opened_wanted : (bytes : List ℕ) (s : Schedule) → too_long_of bytes ≡ None → schedule_of bytes ≡ Ok s → (w : Wanted) → IsOpened s w → IsWantedBy bytes w
 opened_wanted bytes s short encoded (wanted.Refused output) (fault, closed, is) =
     on_bad_node Schedule schedule_of schedule_node (λ value o. ⊥) bytes output s fault short encoded closed is
-opened_wanted bytes s short encoded (wanted.Opened schedule world) (same, opens, is) =
-    (
-      subst (IsReplayable bytes) (sym same) (record { short = short; encoded = encoded; opens = opens }),
-      is ∙ ap (λ (t : Schedule). opened t.config) (sym same),
-    )
+opened_wanted bytes s short encoded (wanted.Opened schedule world) (same, opens, is) = (
+  subst (IsReplayable bytes) (sym same) (record { short = short; encoded = encoded; opens = opens }),
+  is ∙ ap (λ (t : Schedule). opened t.config) (sym same),
+)
 
 -- ---- a check
 pub judged_answers : (bytes : List ℕ) (h : History) → too_long_of bytes ≡ None → history_of bytes ≡ Ok h → (output : Output) → IsJudged h output → AnswersCheck bytes output

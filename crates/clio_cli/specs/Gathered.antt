@@ -13,8 +13,16 @@ pub record Gathered (text held : Text) (before now : Option (List ℕ)) : Type 0
   pub split : text ≡ gone ++ held
   pub written : Added gone before now
 
--- of the writes that were made the last alone failed, where one did, and else none
+-- all of this text was written, and perhaps more
+abbrev pub WroteAll : Text → (before now : Option (List ℕ)) → Type 0
+WroteAll text before now = (more : Text) × Added (text ++ more) before now
+
+-- of the writes that were made the last alone failed, where a failed write breaks a text off, and else none
+abbrev pub CountsBreak : Faults → Faults → Cut → Type 0
+CountsBreak before now cut.WriteFault = LastFailed before now
+CountsBreak before now cut.NoMemory = NoneFailed before now
+
+-- the same of a text that may be whole
 abbrev pub CountsCut : {A : Type 0} → Faults → Faults → Result A Cut → Type 0
 CountsCut before now (Ok value) = NoneFailed before now
-CountsCut before now (Err cut.WriteFault) = LastFailed before now
-CountsCut before now (Err cut.NoMemory) = NoneFailed before now
+CountsCut before now (Err why) = CountsBreak before now why

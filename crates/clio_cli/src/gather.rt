@@ -3,7 +3,7 @@
 ghost use Rattle.std.specs.Prelude.{◌≡◌, [], IfErr, OnErr, OnOk};
 ghost use Rattle.cl_outside.specs.Loops.{WroteFront};
 ghost use Rattle.cl_outside.specs.Told.{Added};
-ghost use Rattle.clio_cli.specs.Gathered.{CountsCut, Gathered};
+ghost use Rattle.clio_cli.specs.Gathered.{CountsBreak, CountsCut, Gathered};
 
 use cl_outside::{Sink, write_all};
 use cl_types::items::{Bytes, NoMemory};
@@ -17,7 +17,7 @@ const ENOUGH: usize = 65_536;
 pub enum Cut {
     /// A write failed: the sink's count of faults rose.
     WriteFault,
-    /// There was no memory.
+    /// An allocation failed.
     NoMemory,
 }
 
@@ -37,6 +37,7 @@ pub fn let_go<K: Sink>(alloc: Global, held: &mut Bytes, sink: &mut K) -> Result<
     ensures written { OnOk result (Added held.old (K.written sink.old) (K.written sink.new)) }
     ensures empty { OnOk result (held.new ≡ []) }
     ensures front { OnErr result (WroteFront held.old (K.written sink.old) (K.written sink.new)) }
+    ensures fault { IfErr result (λ cut. cut ≡ Cut.WriteFault) }
     ensures counted { CountsCut (K.faults sink.old) (K.faults sink.new) result }
 {
     if write_all(sink, held.as_slice()).is_err() {
@@ -46,11 +47,26 @@ pub fn let_go<K: Sink>(alloc: Global, held: &mut Bytes, sink: &mut K) -> Result<
     Ok(())
 }
 
+/// Writes all that is held where an allocation failed, so that no finished line is lost. The answer
+/// is why the text ends: that there was no memory, or that the write failed.
+pub fn give_up<K: Sink>(held: &Bytes, sink: &mut K) -> Cut
+    ensures written { result ≡ Cut.NoMemory
+        → Added held.now (K.written sink.old) (K.written sink.new) }
+    ensures front { WroteFront held.now (K.written sink.old) (K.written sink.new) }
+    ensures counted { CountsBreak (K.faults sink.old) (K.faults sink.new) result }
+{
+    match write_all(sink, held.as_slice()) {
+        Ok(()) => Cut::NoMemory,
+        Err(_) => Cut::WriteFault,
+    }
+}
+
 /// Writes what is held where it is enough.
 pub fn pass_on<K: Sink>(alloc: Global, held: &mut Bytes, sink: &mut K) -> Result<(), Cut>
     ensures passed { OnOk result
         (Gathered held.old held.new (K.written sink.old) (K.written sink.new)) }
     ensures front { OnErr result (WroteFront held.old (K.written sink.old) (K.written sink.new)) }
+    ensures fault { IfErr result (λ cut. cut ≡ Cut.WriteFault) }
     ensures counted { CountsCut (K.faults sink.old) (K.faults sink.new) result }
 {
     if held.as_slice().len() < ENOUGH {

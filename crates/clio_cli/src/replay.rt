@@ -1,18 +1,19 @@
 //! The transcript of a schedule, over a world at its opening, written as it is made.
 
-ghost use Rattle.std.specs.Prelude.{◌≡◌, ◌++◌, ◌∷◌, ◌^◌, ◌<◌, [], false, OnErr, OnOk, codes, decimal, flat_map, length};
+ghost use Rattle.std.specs.Prelude.{◌≡◌, ◌++◌, ◌∷◌, ◌^◌, ◌<◌, [], false, IsErrOf, OnErr, OnOk, codes, decimal, flat_map, length};
 ghost use Rattle.cl_outside.specs.Loops.{WroteFront};
 ghost use Rattle.cl_outside.specs.Told.{Added};
 ghost use Rattle.texts.specs.Texts.{entry_text};
 ghost use Rattle.trace_texts.specs.Transcripts.{transcript};
+ghost use Rattle.transcript_text.specs.Fronts.{IsFront};
 ghost use Rattle.world.specs.Follows.{StandsFor, opened};
 ghost use Rattle.world.specs.Running.{IsFair, summed_on};
 ghost use Rattle.world.specs.Worlds.{step};
-ghost use Rattle.clio_cli.specs.Gathered.{CountsCut, Gathered};
+ghost use Rattle.clio_cli.specs.Gathered.{CountsCut, Gathered, WroteAll};
 ghost use Rattle.clio_cli.specs.Replay.{After, IsServed, Plays, end_text, event_text, history_text};
 ghost use Rattle.cl_types.specs.declared.limits.TheConstants.{LINES_END};
 
-use crate::gather::{Cut, let_go, pass_on};
+use crate::gather::{Cut, give_up, let_go, pass_on};
 use crate::left::Left;
 use crate::status::Status;
 use cl_outside::Sink;
@@ -43,6 +44,8 @@ fn happen(
         ≡ summed_on (step world.old.world number event.now) world.old.summary) }
     ensures line { OnOk result (world.new.line ≡ number) }
     ensures unspent { OnOk result (world.new.spent ≡ false) }
+    ensures front { OnErr result
+        (IsFront held.old (event_text world.old.world number event.now) held.new) }
 {
     let told = world.event(alloc, number, event)?;
     print_line(number, &told, held)
@@ -72,10 +75,14 @@ fn print_event<K: Sink>(
     ensures front { OnErr result (WroteFront
         (held.old ++ event_text world.old.world number event.now)
         (K.written sink.old) (K.written sink.new)) }
+    ensures kept { IsErrOf result Cut.NoMemory
+        → WroteAll held.old (K.written sink.old) (K.written sink.new) }
     ensures counted { CountsCut (K.faults sink.old) (K.faults sink.new) result }
 {
-    happen(alloc, world, number, event, held)?;
-    pass_on(alloc, held, sink)
+    match happen(alloc, world, number, event, held) {
+        Ok(()) => pass_on(alloc, held, sink),
+        Err(_) => Err(give_up(held, sink)),
+    }
 }
 
 // Makes the events happen and hands their lines on.
@@ -112,10 +119,14 @@ fn print_one<K: Sink>(
         (K.written sink.old) (K.written sink.new)) }
     ensures front { OnErr result (WroteFront (held.old ++ entry_text entry.now)
         (K.written sink.old) (K.written sink.new)) }
+    ensures kept { IsErrOf result Cut.NoMemory
+        → WroteAll held.old (K.written sink.old) (K.written sink.new) }
     ensures counted { CountsCut (K.faults sink.old) (K.faults sink.new) result }
 {
-    print_entry(entry, held)?;
-    pass_on(alloc, held, sink)
+    match print_entry(entry, held) {
+        Ok(()) => pass_on(alloc, held, sink),
+        Err(_) => Err(give_up(held, sink)),
+    }
 }
 
 // Prints the lines of entries, and hands them on.
@@ -148,15 +159,20 @@ fn print_end<K: Sink>(
         (K.written sink.old) (K.written sink.new)) }
     ensures front { OnErr result (WroteFront (held.old ++ end_text count)
         (K.written sink.old) (K.written sink.new)) }
+    ensures kept { IsErrOf result Cut.NoMemory
+        → WroteAll held.old (K.written sink.old) (K.written sink.new) }
     ensures counted { CountsCut (K.faults sink.old) (K.faults sink.new) result }
 {
-    append_end(alloc, count, held)?;
-    let_go(alloc, held, sink)
+    match append_end(alloc, count, held) {
+        Ok(()) => let_go(alloc, held, sink),
+        Err(_) => Err(give_up(held, sink)),
+    }
 }
 
 // Appends the last line.
 fn append_end(alloc: Global, count: usize, held: &mut Bytes) -> Result<(), NoMemory>
-    ensures { OnOk result (held.new ≡ held.old ++ end_text count) }
+    ensures appended { OnOk result (held.new ≡ held.old ++ end_text count) }
+    ensures unchanged { OnErr result (held.new ≡ held.old) }
 {
     let text = format!(in alloc; "end {count}\n")?;
     held.append(text.as_bytes())

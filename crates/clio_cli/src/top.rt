@@ -49,7 +49,12 @@ fn checked<S: Source>(alloc: Global, source: &mut S) -> Result<Output, Halt>
 }
 
 // Serves `replay`.
-fn serve_replay<S: Source, K: Sink>(alloc: Global, source: &mut S, sink: &mut K, left: &mut Left) -> Status
+fn serve_replay<S: Source, K: Sink>(
+    alloc: Global,
+    source: &mut S,
+    sink: &mut K,
+    left: &mut Left,
+) -> Status
     requires nothing { left.old ≡ Left.Nothing }
     ensures { Serves (Some Replay)
         (outside (S.left source.old) (S.faults source.old) (K.written sink.old) (K.faults sink.old))

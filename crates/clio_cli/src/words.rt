@@ -95,7 +95,10 @@ fn storm(word: &[u8], seed: &[u8], calls: &[u8]) -> Option<Asked>
     if word != b"storm".as_slice() {
         return None;
     }
-    storm_of(number(0, u64::MAX, seed), number(0, u64::from(MOST_CALLS), calls))
+    storm_of(
+        number(0, u64::MAX, seed),
+        number(0, u64::from(MOST_CALLS), calls),
+    )
 }
 
 /// The storm of a seed and a number of calls, where both are numbers.

@@ -1,5 +1,6 @@
-use Rattle.std.proofs.Common.{◌++◌, ◌∙◌, List, ℕ, ap}
-use Rattle.std.proofs.lemmas.Result.{on_ok_weaker}
+use Rattle.std.proofs.Common.{◌++◌, ◌∙◌, List, ℕ, ap, subst}
+use Rattle.std.proofs.lemmas.Result.{on_err_weaker, on_ok_weaker}
+use Rattle.transcript_text.specs.Fronts.{IsFront}
 use Rattle.world.specs.Running.{summed_on}
 use Rattle.world.specs.Worlds.{Stepped}
 use Rattle.world.proofs.Results.{on_ok_always}
@@ -19,3 +20,10 @@ pub returns-clause-summary : goal.returns-clause-summary
 returns-clause-summary c =
     on_ok_always c.print_line.result
     (c.in_ok-told.ensures.summary ∙ ap (λ (s : Stepped). summed_on s c.args.world.now.summary) c.in_ok-told.ensures.step)
+
+pub returns-clause-front : goal.returns-clause-front
+returns-clause-front c =
+    on_err_weaker c.print_line.result
+    (subst (λ (text : List ℕ). IsFront c.args.held.now text c.print_line.new.to)
+    (told_text c.args.world.now.world c.event.new.self.world c.args.number c.args.event.now c.in_ok-told.told c.in_ok-told.ensures.step))
+    c.print_line.ensures.front
