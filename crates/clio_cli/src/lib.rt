@@ -8,8 +8,9 @@
 //!
 //! A transcript is written as it is made, a line behind an event, over `world::World`. Lines are
 //! held until there are 65,536 bytes of them; no clause says how many are held, or how much memory
-//! that takes. A history that is checked is judged by `history_check`, which shares no code with
-//! the node; and so is the history of a storm, which is a run by law, before that is written.
+//! that takes. Where memory runs out, all finished lines are written before the run ends. A history
+//! that is checked is judged by `history_check`, which uses no part of the node; and so is the
+//! history of a storm, which is a run by law, before that is written.
 #![tactic(auto)]
 
 mod faults;
