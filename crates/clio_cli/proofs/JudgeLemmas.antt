@@ -12,8 +12,8 @@ use Rattle.schedule_text.specs.declared.fault.ScheduleFault.TheVariants as long
 use Rattle.texts.specs.Grammar.{Fault, schedule_of}
 use Rattle.world.specs.Follows.{opened}
 use Rattle.transcript_text.specs.HistoryGrammar.{history_of}
-use Rattle.clio_cli.specs.Outputs.{AnswersCheck, AnswersInput, History, IsReplayable, OnBadLine, OnBadNode, OnLong, OnValue, AsksVerdict, history_node, schedule_node}
-use Rattle.clio_cli.specs.Wanted.{IsJudged, IsOpened, IsWantedBy, RefusesReplay, bad_line_output, bad_node_output, too_long_output}
+use Rattle.clio_cli.specs.Outputs.{AnswersCheck, AnswersInput, History, IsReplayable, OnBadLine, OnBadNode, OnLong, OnValue, AsksVerdict, history_node, schedule_node, bad_line_output, bad_node_output, too_long_output}
+use Rattle.clio_cli.specs.Wanted.{IsJudged, IsOpened, IsWantedBy, RefusesReplay}
 use Rattle.clio_cli.specs.declared.judge.Output.{Output}
 use Rattle.clio_cli.specs.declared.judge.Wanted.{Wanted}
 use Rattle.clio_cli.specs.declared.judge.Wanted.TheVariants as wanted

@@ -28,8 +28,8 @@ use Rattle.world.specs.Worlds.{Stepped, WorldState, step}
 use Rattle.world.proofs.Beginning.{stands_for_none}
 use Rattle.world.proofs.Follows.{worlds_follow}
 use Rattle.world.proofs.Standing.{stands_next}
-use Rattle.clio_cli.specs.Gathered.{Gathered}
-use Rattle.clio_cli.specs.Replay.{After, IsServed, Reached, end_text, event_text, history_text, step_text, text_of_events}
+use Rattle.clio_cli.specs.Gathered.{Gathered, WroteAll}
+use Rattle.clio_cli.specs.Replay.{After, HasHappened, IsServed, Reached, WroteLines, end_text, event_text, history_text, step_text, text_of_events}
 use Rattle.clio_cli.proofs.GatherLemmas.{added_none, front_on, front_wider, gathered_all, gathered_on}
 use Rattle.clio_cli.proofs.StepLemmas.{good_step}
 
@@ -176,12 +176,21 @@ module _ (s : Schedule) (served : IsServed s) (i : ℕ) (w : Running) (reached :
   reached_by v line stands = reached_next v line (stands s.config reached.done good reached.stands)
 
   module _ (held : Text) (before mid : Option (List ℕ)) (gathered : Gathered (text_of_events s reached.done) held before mid) where
-    pub after_next : (v : Running) (left : Text) (now : Option (List ℕ)) → v.world ≡ (step w.world e.0 e.1).world → v.summary ≡ summed_on (step w.world e.0 e.1) w.summary → v.line ≡ e.0 → v.spent ≡ false
-        → Gathered (held ++ event_text w.world e.0 e.1) left mid now → After s (i + 1) v left before now
-    after_next v left now is summary line unspent more = record {
-      reached = reached_next v line (stands_next s.config reached.done e.0 e.1 w v reached.stands on is summary line unspent);
+    pub after_next : (v : Running) (left : Text) (now : Option (List ℕ)) → HasHappened w v e.0 e.1 → Gathered (held ++ event_text w.world e.0 e.1) left mid now → After s (i + 1) v left before now
+    after_next v left now h more = record {
+      reached = reached_next v h.line (stands_next s.config reached.done e.0 e.1 w v reached.stands on h.world h.summary h.line h.unspent);
       gathered = subst (λ (t : Text). Gathered t left before now) (sym (text_next s reached.done e.0 e.1 w.world on))
           (gathered_on (text_of_events s reached.done) held (event_text w.world e.0 e.1) before mid now gathered left more);
+    }
+
+    -- where memory runs out in this event, the lines of those before it are written
+    pub kept_next : (v : Running) (now : Option (List ℕ)) → v.line ≤ e.0 → WroteAll held mid now → WroteLines s v before now
+    kept_next v now late (more, added) = record {
+      done = reached.done;
+      rest = e ∷ next.0;
+      split = reached.split ∙ ap (λ es. reached.done ++ es) next.1;
+      late = (late, rising.1);
+      written = (more, gathered_all (text_of_events s reached.done) held more before mid now gathered added);
     }
 
     pub front_next : (now : Option (List ℕ)) → WroteFront (held ++ event_text w.world e.0 e.1) mid now → WroteFront (transcript s) before now

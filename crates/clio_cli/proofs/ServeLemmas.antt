@@ -36,10 +36,10 @@ use Rattle.transcript_text.specs.HistoryGrammar.{history_of}
 use Rattle.world.specs.Follows.{StandsFor}
 use Rattle.world.specs.Running.{Running}
 use Rattle.clio_cli.specs.Headline.{Checks, Replays, Storms, Succeeds, Worked}
-use Rattle.clio_cli.specs.Outputs.{AnswersCheck, AsksTranscript, AsksVerdict, History, IsCheckable, IsReplayable, OnBadLine, OnBadNode, OnLong, OnValue, bad_words, history_node, schedule_node, storm_output, verdict_output}
+use Rattle.clio_cli.specs.Outputs.{AnswersCheck, AsksTranscript, AsksVerdict, History, IsCheckable, IsReplayable, OnBadLine, OnBadNode, OnLong, OnValue, bad_words, history_node, schedule_node, storm_output, verdict_output, too_long_output}
 use Rattle.clio_cli.specs.Replay.{IsServed, Plays}
 use Rattle.clio_cli.specs.Run.{Asks, Ends, Gave, IsInput, IsTooMany, Outside, TakesBy}
-use Rattle.clio_cli.specs.Wanted.{IsWantedBy, IsWantedOf, Keeps, RefusesReplay, Says, Serves, too_long_output}
+use Rattle.clio_cli.specs.Wanted.{IsWantedBy, IsWantedOf, Keeps, RefusesReplay, Says, Serves}
 use Rattle.clio_cli.specs.Words.{is_built_command, reads_input}
 use Rattle.clio_cli.specs.declared.judge.Output.{Output}
 use Rattle.clio_cli.specs.declared.judge.Wanted.{Wanted}

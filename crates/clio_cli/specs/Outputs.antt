@@ -67,11 +67,23 @@ pub record Encodes (A : Type 0) (read : List ℕ → Result A Fault) (node_of : 
 abbrev pub IsTooLong : List ℕ → Type 0
 IsTooLong bytes = (fault : ScheduleFault) × (too_long_of bytes ≡ Some fault)
 
+-- the output on a bad line
+abbrev pub bad_line_output : Fault → Output
+bad_line_output fault = record { text = fault_line fault; status = status.BadInput }
+
+-- the output on an input that is too long
+abbrev pub too_long_output : ScheduleFault → Output
+too_long_output fault = record { text = too_long_text fault; status = status.TooLong }
+
+-- the output on a node that doesn't open
+abbrev pub bad_node_output : OpenFault → Output
+bad_node_output fault = record { text = open_fault_line fault; status = status.BadNode }
+
 -- the output on an input: why it is refused, or what its value asks for
 pub data AnswersInput (A : Type 0) (read : List ℕ → Result A Fault) (node_of : A → NodeConfig) (Asked : A → Output → Type 0) (bytes : List ℕ) (output : Output) : Type 0 where
-  OnLong : (long : IsTooLong bytes) → (is : output ≡ record { text = too_long_text long.0; status = status.TooLong }) → AnswersInput A read node_of Asked bytes output
-  OnBadLine : (refused : IsRefused A read bytes) → (is : output ≡ record { text = fault_line refused.fault; status = status.BadInput }) → AnswersInput A read node_of Asked bytes output
-  OnBadNode : (bad : HasBadNode A read node_of bytes) → (is : output ≡ record { text = open_fault_line bad.fault; status = status.BadNode }) → AnswersInput A read node_of Asked bytes output
+  OnLong : (long : IsTooLong bytes) → (is : output ≡ too_long_output long.0) → AnswersInput A read node_of Asked bytes output
+  OnBadLine : (refused : IsRefused A read bytes) → (is : output ≡ bad_line_output refused.fault) → AnswersInput A read node_of Asked bytes output
+  OnBadNode : (bad : HasBadNode A read node_of bytes) → (is : output ≡ bad_node_output bad.fault) → AnswersInput A read node_of Asked bytes output
   OnValue : (value : A) → (encoded : Encodes A read node_of bytes value) → (asked : Asked value output) → AnswersInput A read node_of Asked bytes output
 
 -- ---- a schedule that is replayed

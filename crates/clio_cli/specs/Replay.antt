@@ -1,5 +1,5 @@
 -- Working the events of a schedule, with and without their text. No public clause cites this module.
-use Rattle.std.specs.Prelude.{◌≡◌, ℕ, ◌+◌, ◌≤◌, List, [], ◌∷◌, ◌++◌, Option, codes, decimal, flat_map, length}
+use Rattle.std.specs.Prelude.{◌≡◌, false, ℕ, ◌+◌, ◌≤◌, List, [], ◌∷◌, ◌++◌, Option, codes, decimal, flat_map, length}
 use Rattle.cl_outside.specs.Counts.{LastFailed, NoneFailed}
 use Rattle.cl_outside.specs.Loops.{WroteFront}
 use Rattle.cl_outside.specs.Told.{Added}
@@ -13,9 +13,9 @@ use Rattle.texts.specs.Texts.{entry_text, numbered_text}
 use Rattle.trace_texts.specs.Transcripts.{line_text, transcript}
 use Rattle.trace.specs.Schedules.{IsGood, IsRisingFrom}
 use Rattle.world.specs.Follows.{StandsFor}
-use Rattle.world.specs.Running.{Running}
+use Rattle.world.specs.Running.{Running, summed_on}
 use Rattle.world.specs.Worlds.{Stepped, WorldState, step}
-use Rattle.clio_cli.specs.Gathered.{Gathered}
+use Rattle.clio_cli.specs.Gathered.{Gathered, WroteAll}
 use Rattle.clio_cli.specs.Suited.{IsSuited}
 use Rattle.clio_cli.specs.declared.left.Left.{Left}
 use Rattle.clio_cli.specs.declared.left.Left.TheVariants as left
@@ -62,6 +62,22 @@ pub record Reached (s : Schedule) (i : ℕ) (w : Running) : Type 0 where
 pub record After (s : Schedule) (i : ℕ) (w : Running) (held : Text) (before now : Option (List ℕ)) : Type 0 where
   pub reached : Reached s i w
   pub gathered : Gathered (text_of_events s reached.done) held before now
+
+-- an event happened in a world: it is the one after the step, at the event's line, with one event more counted, and not spent
+pub record HasHappened (old new : Running) (number : ℕ) (event : Event) : Type 0 where
+  pub world : new.world ≡ (step old.world number event).world
+  pub summary : new.summary ≡ summed_on (step old.world number event) old.summary
+  pub line : new.line ≡ number
+  pub unspent : new.spent ≡ false
+
+-- the lines of all events before the world's latest line were written, and perhaps more
+pub record WroteLines (s : Schedule) (w : Running) (before now : Option (List ℕ)) : Type 0 where
+  pub done : List (ℕ × Event)
+  pub rest : List (ℕ × Event)
+  pub split : s.events ≡ done ++ rest
+  -- the others are not before that line
+  pub late : IsRisingFrom w.line rest
+  pub written : WroteAll (text_of_events s done) before now
 
 -- how working a schedule ends, by what the sink was given of its text and which writes failed: whole, with the world that
 -- stands for the events, or cut, and then nothing is left

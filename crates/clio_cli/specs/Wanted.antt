@@ -7,13 +7,11 @@ use Rattle.cl_outside.specs.declared.faults.Faults.{Faults}
 use Rattle.cl_types.specs.declared.open_fault.OpenFault.{OpenFault}
 use Rattle.cl_types.specs.declared.schedule.Schedule.{Schedule}
 use Rattle.flat_model.specs.Opening.{open_fault}
-use Rattle.schedule_text.specs.declared.fault.ScheduleFault.{ScheduleFault}
 use Rattle.texts.specs.Commands.{Command}
-use Rattle.texts.specs.Grammar.{Fault, schedule_of}
-use Rattle.texts.specs.Texts.{fault_line, open_fault_line}
+use Rattle.texts.specs.Grammar.{schedule_of}
 use Rattle.world.specs.Follows.{opened}
 use Rattle.clio_cli.specs.Headline.{Succeeds}
-use Rattle.clio_cli.specs.Outputs.{AnswersInput, AsksVerdict, History, IsReplayable, history_node, schedule_node, too_long_text}
+use Rattle.clio_cli.specs.Outputs.{AnswersInput, AsksVerdict, History, IsReplayable, bad_node_output, history_node, schedule_node}
 use Rattle.clio_cli.specs.Run.{Ends, Gave, IsInput, IsTooMany, Outside}
 use Rattle.clio_cli.specs.declared.judge.Output.{Output}
 use Rattle.clio_cli.specs.declared.judge.Wanted.{Wanted}
@@ -28,18 +26,6 @@ use Rattle.clio_cli.specs.declared.input.Input.{Input}
 use Rattle.clio_cli.specs.declared.input.Input.TheVariants as input
 
 -- ---- refusals
--- the output on a bad line
-abbrev pub bad_line_output : Fault → Output
-bad_line_output fault = record { text = fault_line fault; status = status.BadInput }
-
--- the output on an input that is too long
-abbrev pub too_long_output : ScheduleFault → Output
-too_long_output fault = record { text = too_long_text fault; status = status.TooLong }
-
--- the output on a node that doesn't open
-abbrev pub bad_node_output : OpenFault → Output
-bad_node_output fault = record { text = open_fault_line fault; status = status.BadNode }
-
 -- these bytes are no schedule that is replayed, and the output is why
 abbrev pub RefusesReplay : List ℕ → Output → Type 0
 RefusesReplay bytes output = AnswersInput Schedule schedule_of schedule_node (λ s o. ⊥) bytes output

@@ -12,7 +12,7 @@ use std::alloc::Global;
 /// How many bytes are held before they are written.
 const ENOUGH: usize = 65_536;
 
-/// Why a text ends before its end.
+/// Why a text was cut short.
 #[derive(Clone, Copy, Debug, PartialEq, Eq)]
 pub enum Cut {
     /// A write failed: the sink's count of faults rose.
@@ -33,7 +33,7 @@ impl From<NoMemory> for Cut {
 }
 
 /// Writes all that is held.
-pub fn let_go<K: Sink>(alloc: Global, held: &mut Bytes, sink: &mut K) -> Result<(), Cut>
+pub fn flush<K: Sink>(alloc: Global, held: &mut Bytes, sink: &mut K) -> Result<(), Cut>
     ensures written { OnOk result (Added held.old (K.written sink.old) (K.written sink.new)) }
     ensures empty { OnOk result (held.new ≡ []) }
     ensures front { OnErr result (WroteFront held.old (K.written sink.old) (K.written sink.new)) }
@@ -49,7 +49,7 @@ pub fn let_go<K: Sink>(alloc: Global, held: &mut Bytes, sink: &mut K) -> Result<
 
 /// Writes all that is held where an allocation failed, so that no finished line is lost. The answer
 /// is why the text ends: that there was no memory, or that the write failed.
-pub fn give_up<K: Sink>(held: &Bytes, sink: &mut K) -> Cut
+pub fn flush_and_stop<K: Sink>(held: &Bytes, sink: &mut K) -> Cut
     ensures written { result ≡ Cut.NoMemory
         → Added held.now (K.written sink.old) (K.written sink.new) }
     ensures front { WroteFront held.now (K.written sink.old) (K.written sink.new) }
@@ -62,7 +62,7 @@ pub fn give_up<K: Sink>(held: &Bytes, sink: &mut K) -> Cut
 }
 
 /// Writes what is held where it is enough.
-pub fn pass_on<K: Sink>(alloc: Global, held: &mut Bytes, sink: &mut K) -> Result<(), Cut>
+pub fn flush_if_full<K: Sink>(alloc: Global, held: &mut Bytes, sink: &mut K) -> Result<(), Cut>
     ensures passed { OnOk result
         (Gathered held.old held.new (K.written sink.old) (K.written sink.new)) }
     ensures front { OnErr result (WroteFront held.old (K.written sink.old) (K.written sink.new)) }
@@ -72,5 +72,5 @@ pub fn pass_on<K: Sink>(alloc: Global, held: &mut Bytes, sink: &mut K) -> Result
     if held.as_slice().len() < ENOUGH {
         return Ok(());
     }
-    let_go(alloc, held, sink)
+    flush(alloc, held, sink)
 }

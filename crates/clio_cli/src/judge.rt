@@ -1,19 +1,21 @@
 //! What the bytes of an input ask for: an output that tells why they are refused, a replay, or the verdict of a check.
 
-ghost use Rattle.std.specs.Prelude.{◌≡◌, ◌+◌, ◌<◌, ◌^◌, true, Some, None, IfErr, IfOk, length};
-ghost use Rattle.cl_types.specs.declared.limits.TheConstants.{INPUT_BYTES};
+ghost use Rattle.std.specs.Prelude.{◌≡◌, ◌+◌, ◌<◌, ◌≤◌, ◌^◌, true, Some, None, IfErr, IfOk, length};
+ghost use Rattle.cl_types.specs.declared.limits.TheConstants.{INPUT_BYTES, INPUT_LINES};
 ghost use Rattle.flat_model.specs.Opening.{open_fault};
+ghost use Rattle.schedule_text.specs.Reading.{Reads};
+ghost use Rattle.transcript_text.specs.HistoryGrammar.{history_of};
 ghost use Rattle.world.specs.Follows.{opened};
 ghost use Rattle.world.specs.Running.{HaveNumbersApart};
-ghost use Rattle.clio_cli.specs.Outputs.{AnswersCheck, verdict_output};
-ghost use Rattle.clio_cli.specs.Wanted.{IsJudged, IsOpened, IsWantedBy, bad_line_output, bad_node_output, too_long_output};
+ghost use Rattle.clio_cli.specs.Outputs.{AnswersCheck, bad_line_output, bad_node_output, too_long_output, verdict_output};
+ghost use Rattle.clio_cli.specs.Wanted.{IsJudged, IsOpened, IsWantedBy};
 
 use crate::faults::{line_fault, node_fault};
 use crate::status::Status;
 use cl_types::config::Config;
 use cl_types::items::{Bytes, NoMemory};
 use cl_types::limits::INPUT_BYTES;
-use cl_types::line::Entry;
+use cl_types::line::{Entry, EntryList};
 use cl_types::open_fault::OpenFault;
 use cl_types::schedule::{Schedule, What};
 use history_check::{CheckFault, Verdict, check};
@@ -122,8 +124,8 @@ pub fn judge(alloc: Global, bytes: &[u8]) -> Result<Wanted, NoMemory>
     }
 }
 
-/// The output that tells the verdict on a history of so many entries.
-fn told_verdict(alloc: Global, count: usize, verdict: Verdict) -> Result<Output, NoMemory>
+/// The output that reports the verdict on a history of so many entries.
+fn verdict_of(alloc: Global, count: usize, verdict: Verdict) -> Result<Output, NoMemory>
     ensures { IfOk result (λ output. output ≡ verdict_output count verdict) }
 {
     match verdict {
@@ -144,17 +146,25 @@ fn judge_entries(alloc: Global, config: &Config, entries: &[Entry]) -> Result<Ou
     ensures { IfOk result (IsJudged (config.now, entries.now)) }
 {
     match check(alloc, config, entries) {
-        Ok(verdict) => told_verdict(alloc, entries.len(), verdict),
+        Ok(verdict) => verdict_of(alloc, entries.len(), verdict),
         Err(CheckFault::Opening(fault)) => bad_node(alloc, fault),
         Err(CheckFault::NoMemory) => Err(NoMemory),
     }
 }
 
-/// The output of a check of the bytes of an input.
-pub fn judge_history(alloc: Global, bytes: &[u8]) -> Result<Output, NoMemory>
-    ensures { IfOk result (AnswersCheck bytes.now) }
+/// Reads a transcript back, and lets its text go, so that only its history is held.
+fn read_back(alloc: Global, bytes: Vec<u8>) -> Result<(Config, EntryList), ScheduleFault>
+    ensures reads { Reads bytes.items (history_of bytes.items) result }
+    ensures few { IfOk result (λ read. length read.1 ≤ INPUT_LINES) }
 {
-    match read_history(alloc, bytes) {
+    read_history(alloc, &bytes)
+}
+
+/// The output of a check of the bytes of an input.
+pub fn judge_history(alloc: Global, bytes: Vec<u8>) -> Result<Output, NoMemory>
+    ensures { IfOk result (AnswersCheck bytes.items) }
+{
+    match read_back(alloc, bytes) {
         Ok((config, entries)) => judge_entries(alloc, &config, entries.as_slice()),
         Err(ScheduleFault::Line { number, what }) => bad_line(alloc, number, what),
         Err(ScheduleFault::TooLong { bytes, number }) => too_long(alloc, bytes, number),

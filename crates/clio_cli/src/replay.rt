@@ -1,19 +1,18 @@
 //! The transcript of a schedule, over a world at its opening, written as it is made.
 
-ghost use Rattle.std.specs.Prelude.{◌≡◌, ◌++◌, ◌∷◌, ◌^◌, ◌<◌, [], false, IsErrOf, OnErr, OnOk, codes, decimal, flat_map, length};
+ghost use Rattle.std.specs.Prelude.{◌≡◌, ◌++◌, ◌∷◌, ◌^◌, ◌<◌, ◌≤◌, [], IsErrOf, OnErr, OnOk, codes, decimal, flat_map, length};
 ghost use Rattle.cl_outside.specs.Loops.{WroteFront};
 ghost use Rattle.cl_outside.specs.Told.{Added};
 ghost use Rattle.texts.specs.Texts.{entry_text};
 ghost use Rattle.trace_texts.specs.Transcripts.{transcript};
 ghost use Rattle.transcript_text.specs.Fronts.{IsFront};
 ghost use Rattle.world.specs.Follows.{StandsFor, opened};
-ghost use Rattle.world.specs.Running.{IsFair, summed_on};
-ghost use Rattle.world.specs.Worlds.{step};
+ghost use Rattle.world.specs.Running.{IsFair};
 ghost use Rattle.clio_cli.specs.Gathered.{CountsCut, Gathered, WroteAll};
-ghost use Rattle.clio_cli.specs.Replay.{After, IsServed, Plays, end_text, event_text, history_text};
+ghost use Rattle.clio_cli.specs.Replay.{After, HasHappened, IsServed, Plays, WroteLines, end_text, event_text, history_text};
 ghost use Rattle.cl_types.specs.declared.limits.TheConstants.{LINES_END};
 
-use crate::gather::{Cut, give_up, let_go, pass_on};
+use crate::gather::{Cut, flush, flush_and_stop, flush_if_full};
 use crate::left::Left;
 use crate::status::Status;
 use cl_outside::Sink;
@@ -38,14 +37,10 @@ fn happen(
     requires fair { IsFair event.now }
     ensures printed { OnOk result
         (held.new ≡ held.old ++ event_text world.old.world number event.now) }
-    ensures world { OnOk result
-        (world.new.world ≡ (step world.old.world number event.now).world) }
-    ensures summary { OnOk result (world.new.summary
-        ≡ summed_on (step world.old.world number event.now) world.old.summary) }
-    ensures line { OnOk result (world.new.line ≡ number) }
-    ensures unspent { OnOk result (world.new.spent ≡ false) }
+    ensures happened { OnOk result (HasHappened world.old world.new number event.now) }
     ensures front { OnErr result
         (IsFront held.old (event_text world.old.world number event.now) held.new) }
+    ensures late { OnErr result (world.new.line ≤ number) }
 {
     let told = world.event(alloc, number, event)?;
     print_line(number, &told, held)
@@ -66,22 +61,18 @@ fn print_event<K: Sink>(
     ensures printed { OnOk result (Gathered
         (held.old ++ event_text world.old.world number event.now) held.new
         (K.written sink.old) (K.written sink.new)) }
-    ensures world { OnOk result
-        (world.new.world ≡ (step world.old.world number event.now).world) }
-    ensures summary { OnOk result (world.new.summary
-        ≡ summed_on (step world.old.world number event.now) world.old.summary) }
-    ensures line { OnOk result (world.new.line ≡ number) }
-    ensures unspent { OnOk result (world.new.spent ≡ false) }
+    ensures happened { OnOk result (HasHappened world.old world.new number event.now) }
     ensures front { OnErr result (WroteFront
         (held.old ++ event_text world.old.world number event.now)
         (K.written sink.old) (K.written sink.new)) }
     ensures kept { IsErrOf result Cut.NoMemory
         → WroteAll held.old (K.written sink.old) (K.written sink.new) }
+    ensures late { OnErr result (world.new.line ≤ number) }
     ensures counted { CountsCut (K.faults sink.old) (K.faults sink.new) result }
 {
     match happen(alloc, world, number, event, held) {
-        Ok(()) => pass_on(alloc, held, sink),
-        Err(_) => Err(give_up(held, sink)),
+        Ok(()) => flush_if_full(alloc, held, sink),
+        Err(_) => Err(flush_and_stop(held, sink)),
     }
 }
 
@@ -100,10 +91,14 @@ fn print_events<K: Sink>(
         world.new held.new (K.written sink.old) (K.written sink.new)) }
     ensures front { OnErr result
         (WroteFront (transcript schedule.now) (K.written sink.old) (K.written sink.new)) }
+    ensures kept { IsErrOf result Cut.NoMemory
+        → WroteLines schedule.now world.new (K.written sink.old) (K.written sink.new) }
     ensures counted { CountsCut (K.faults sink.old) (K.faults sink.new) result }
 {
     for (number, event) in schedule.events.as_slice() {
-        print_event(alloc, world, *number, event, held, sink)?;
+        if let Err(cut) = print_event(alloc, world, *number, event, held, sink) {
+            return Err(cut);
+        }
     }
     Ok(())
 }
@@ -124,8 +119,8 @@ fn print_one<K: Sink>(
     ensures counted { CountsCut (K.faults sink.old) (K.faults sink.new) result }
 {
     match print_entry(entry, held) {
-        Ok(()) => pass_on(alloc, held, sink),
-        Err(_) => Err(give_up(held, sink)),
+        Ok(()) => flush_if_full(alloc, held, sink),
+        Err(_) => Err(flush_and_stop(held, sink)),
     }
 }
 
@@ -164,8 +159,8 @@ fn print_end<K: Sink>(
     ensures counted { CountsCut (K.faults sink.old) (K.faults sink.new) result }
 {
     match append_end(alloc, count, held) {
-        Ok(()) => let_go(alloc, held, sink),
-        Err(_) => Err(give_up(held, sink)),
+        Ok(()) => flush(alloc, held, sink),
+        Err(_) => Err(flush_and_stop(held, sink)),
     }
 }
 

@@ -16,7 +16,7 @@ pub enum Status {
     ReadFault,
     /// A write failed.
     WriteFault,
-    /// An allocation failed.
+    /// An allocation failed. A prefix of the output was written.
     NoMemory,
     /// The history that was checked is no run.
     NotRun,

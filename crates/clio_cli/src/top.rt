@@ -43,7 +43,7 @@ fn checked<S: Source>(alloc: Global, source: &mut S) -> Result<Output, Halt>
         → TookUpTo INPUT_BYTES (S.left source.old) (S.left source.new) }
 {
     match take_input(alloc, source)? {
-        Input::Whole(bytes) => Ok(judge_history(alloc, &bytes)?),
+        Input::Whole(bytes) => Ok(judge_history(alloc, bytes)?),
         Input::TooMany => Ok(too_many(alloc)?),
     }
 }
@@ -116,8 +116,9 @@ fn serve<S: Source, K: Sink>(
     }
 }
 
-/// Serves a command line, and answers the status with which the program is to end. With success
-/// `left` is what the command worked with, and else `Nothing`; what stood in it before is dropped.
+/// Serves a command line, and answers the status with which the program is to end, as the rules of
+/// the commands in docs/RULES.md number them. With success `left` is what the command worked with,
+/// which of `check` is `Nothing`, and else it is `Nothing`; what stood in it before is dropped.
 pub fn run<S: Source, K: Sink>(
     alloc: Global,
     words: &Words,

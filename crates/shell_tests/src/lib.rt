@@ -1,6 +1,13 @@
-//! Tests of the program's commands: a transcript and the world that is left, each other end with its text and status, and
-//! a transcript that is written in pieces.
+//! Tests of the program's commands: what each writes and leaves with success, and each other end with its text and status.
 #![tactic(auto)]
 
 #[cfg(test)]
+mod check;
+#[cfg(test)]
+mod ends;
+#[cfg(test)]
 mod replay;
+#[cfg(test)]
+mod runs;
+#[cfg(test)]
+mod storm;

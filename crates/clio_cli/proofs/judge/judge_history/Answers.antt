@@ -11,17 +11,17 @@ use Rattle.clio_cli.proofs.judge.judge_history.Goals as goal
 pub returns-in-Ok : goal.returns-in-Ok
 returns-in-Ok c =
     IfOk-weaker c.judge_entries.result _ _
-    (λ output judged. judged_answers c.args.bytes.now (c.in-Ok.config, c.in-Ok.entries) c.in-Ok.ensures.reads.0 c.in-Ok.ensures.reads.1 output (subst (λ (es : List Entry). IsJudged (c.in-Ok.config, es) output) c.as_slice.ensures judged))
+    (λ output judged. judged_answers c.args.bytes.items (c.in-Ok.config, c.in-Ok.entries) c.in-Ok.ensures.reads.0 c.in-Ok.ensures.reads.1 output (subst (λ (es : List Entry). IsJudged (c.in-Ok.config, es) output) c.as_slice.ensures judged))
     c.judge_entries.ensures
 
 pub returns-in-Err-Line : goal.returns-in-Err-Line
 returns-in-Err-Line c =
-    let bad = read_bad_line c.args.bytes.now (history_of c.args.bytes.now) c.in-Err-Line.field-0 c.in-Err-Line.number c.in-Err-Line.what c.in-Err-Line.field-0-is c.in-Err-Line.ensures.reads in
+    let bad = read_bad_line c.args.bytes.items (history_of c.args.bytes.items) c.in-Err-Line.field-0 c.in-Err-Line.number c.in-Err-Line.what c.in-Err-Line.field-0-is c.in-Err-Line.ensures.reads in
     IfOk-weaker c.bad_line.result _ _
-    (λ output. on_bad_line History history_of history_node AsksVerdict c.args.bytes.now output (c.in-Err-Line.number, c.in-Err-Line.what) bad.0 bad.1) c.bad_line.ensures
+    (λ output. on_bad_line History history_of history_node AsksVerdict c.args.bytes.items output (c.in-Err-Line.number, c.in-Err-Line.what) bad.0 bad.1) c.bad_line.ensures
 
 pub returns-in-Err-TooLong : goal.returns-in-Err-TooLong
 returns-in-Err-TooLong c =
-    let long = read_long c.args.bytes.now (history_of c.args.bytes.now) c.in-Err-TooLong.field-0 c.in-Err-TooLong.bytes c.in-Err-TooLong.number c.in-Err-TooLong.field-0-is c.in-Err-TooLong.ensures.reads in
+    let long = read_long c.args.bytes.items (history_of c.args.bytes.items) c.in-Err-TooLong.field-0 c.in-Err-TooLong.bytes c.in-Err-TooLong.number c.in-Err-TooLong.field-0-is c.in-Err-TooLong.ensures.reads in
     IfOk-weaker c.too_long.result _ _
-    (λ output. on_long History history_of history_node AsksVerdict c.args.bytes.now output (TooLong c.in-Err-TooLong.bytes c.in-Err-TooLong.number) long) c.too_long.ensures
+    (λ output. on_long History history_of history_node AsksVerdict c.args.bytes.items output (TooLong c.in-Err-TooLong.bytes c.in-Err-TooLong.number) long) c.too_long.ensures

@@ -4,7 +4,7 @@ use Rattle.transcript_text.specs.Fronts.{IsFront}
 use Rattle.world.specs.Running.{summed_on}
 use Rattle.world.specs.Worlds.{Stepped}
 use Rattle.world.proofs.Results.{on_ok_always}
-use Rattle.clio_cli.proofs.ReplayLemmas.{told_good, told_text}
+use Rattle.clio_cli.proofs.ReplayLemmas.{told_good, told_text, told_world}
 use Rattle.clio_cli.proofs.replay.happen.Goals as goal
 
 pub print_line-requires : goal.print_line-requires
@@ -16,10 +16,15 @@ returns-clause-printed c =
     (λ printed. printed ∙ ap (λ (text : List ℕ). c.args.held.now ++ text) (told_text c.args.world.now.world c.event.new.self.world c.args.number c.args.event.now c.in_ok-told.told c.in_ok-told.ensures.step))
     c.print_line.ensures.printed
 
-pub returns-clause-summary : goal.returns-clause-summary
-returns-clause-summary c =
+pub returns-clause-happened : goal.returns-clause-happened
+returns-clause-happened c =
     on_ok_always c.print_line.result
-    (c.in_ok-told.ensures.summary ∙ ap (λ (s : Stepped). summed_on s c.args.world.now.summary) c.in_ok-told.ensures.step)
+    (record {
+      world = told_world c.args.world.now.world c.event.new.self.world c.args.number c.args.event.now c.in_ok-told.told c.in_ok-told.ensures.step;
+      summary = c.in_ok-told.ensures.summary ∙ ap (λ (s : Stepped). summed_on s c.args.world.now.summary) c.in_ok-told.ensures.step;
+      line = c.in_ok-told.ensures.line;
+      unspent = c.in_ok-told.ensures.ready;
+    })
 
 pub returns-clause-front : goal.returns-clause-front
 returns-clause-front c =

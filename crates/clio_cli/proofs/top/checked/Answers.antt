@@ -1,4 +1,4 @@
-use Rattle.std.proofs.Common.{subst}
+use Rattle.std.proofs.Common.{refl, subst}
 use Rattle.clio_cli.specs.Wanted.{IsTaken}
 use Rattle.clio_cli.proofs.ServeLemmas.{many_checked, whole_checked}
 use Rattle.clio_cli.proofs.top.checked.Goals as goal
@@ -6,7 +6,7 @@ use Rattle.clio_cli.proofs.top.checked.Goals as goal
 pub returns-in_ok-judge_history-in-Whole-clause-checked : goal.returns-in_ok-judge_history-in-Whole-clause-checked
 returns-in_ok-judge_history-in-Whole-clause-checked g c =
     let taken = subst (IsTaken (g.S.Source.left c.args.source.now) (g.S.Source.left c.take_input.new.source)) c.in-Whole.is c.in_ok-bytes.ensures.taken in
-    whole_checked (g.S.Source.left c.args.source.now) (g.S.Source.left c.take_input.new.source) c.in-Whole.bytes.items c.deref.result.now c.in_ok-judge_history-in-Whole.field-0 taken c.deref.ensures.value
+    whole_checked (g.S.Source.left c.args.source.now) (g.S.Source.left c.take_input.new.source) c.in-Whole.bytes.items c.in-Whole.bytes.items c.in_ok-judge_history-in-Whole.field-0 taken refl
     c.in_ok-judge_history-in-Whole.ensures
 
 pub returns-in_ok-too_many-in-TooMany-clause-checked : goal.returns-in_ok-too_many-in-TooMany-clause-checked
