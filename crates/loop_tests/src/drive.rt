@@ -1,12 +1,14 @@
 //! Tests of `drive`.
 
+ghost use Rattle.std.specs.Prelude.{◌≡◌, IfOk, length};
+
 use cl_outside::{Bound, MemorySink, Peer, ScriptClock, ScriptWire};
 use cl_types::call::Perm;
 use cl_types::items::{Items, NoMemory};
 use cl_types::numbers::{ClientNo, try_pid};
 use cl_types::schedule::{CallText, Script};
 use client_core::Client;
-use std::alloc::{AllocError, Global};
+use std::alloc::Global;
 use std::test::Fail;
 use wire_loop::{DriveEnd, drive};
 
@@ -105,41 +107,60 @@ fn call_text(asked: Asked) -> CallText {
     }
 }
 
-/// A list of this number alone.
-fn single(alloc: Global, number: u64) -> Result<Vec<u64>, AllocError> {
-    Ok(vec![in alloc; number]?)
+fn script(alloc: Global, run: &Run) -> Result<Script, NoMemory>
+    ensures { IfOk result (λ script. length script.calls ≡ 2) }
+{
+    let mut calls = Items::create(alloc);
+    calls.push((1, call_text(run.calls[0])))?;
+    calls.push((2, call_text(run.calls[1])))?;
+    Ok(Script { calls })
 }
 
-/// A list of these two numbers.
-fn pair(alloc: Global, numbers: [u64; 2]) -> Result<Vec<u64>, AllocError> {
-    Ok(vec![in alloc; numbers[0], numbers[1]]?)
+fn clock(alloc: Global, run: &Run) -> Result<ScriptClock, NoMemory> {
+    Ok(ScriptClock::create(Vec::from_slice(alloc, &run.moments)?))
+}
+
+fn wire(alloc: Global, run: &Run) -> Result<ScriptWire, NoMemory> {
+    let fails = Vec::from_slice(alloc, &[run.failing_send])?;
+    Ok(ScriptWire::create(
+        alloc,
+        Bound::Port(5),
+        Vec::new(alloc),
+        Vec::new(alloc),
+        fails,
+    ))
+}
+
+fn sink(alloc: Global, run: &Run) -> Result<MemorySink, NoMemory> {
+    let fails = Vec::from_slice(alloc, &[run.failing_write])?;
+    Ok(MemorySink::create(alloc, fails))
+}
+
+/// How driving a new client ends. No other function owns a client, since each that drops one takes the prover long.
+fn drive_new(
+    alloc: Global,
+    script: &Script,
+    wire: &mut ScriptWire,
+    clock: &mut ScriptClock,
+    sink: &mut MemorySink,
+) -> Result<Option<DriveEnd>, NoMemory>
+    requires { length script.now.calls ≡ 2 }
+{
+    let Some(pid) = try_pid(1) else {
+        return Ok(None);
+    };
+    let mut client = Client::create(alloc, ClientNo(1), pid)?;
+    Ok(Some(drive(alloc, &mut client, script, NODE, wire, clock, sink)))
 }
 
 /// Whether the run comes out as its row says.
 fn comes_out(alloc: Global, run: &Run) -> Result<bool, NoMemory> {
-    let Some(pid) = try_pid(1) else {
-        return Ok(false);
-    };
-    let mut client = Client::create(alloc, ClientNo(1), pid)?;
-    let mut calls = Items::create(alloc);
-    calls.push((1, call_text(run.calls[0])))?;
-    calls.push((2, call_text(run.calls[1])))?;
-    let script = Script { calls };
-    let mut clock = ScriptClock::create(pair(alloc, run.moments)?);
-    let fails = single(alloc, run.failing_send)?;
-    let none = Vec::new(alloc);
-    let mut wire = ScriptWire::create(alloc, Bound::Port(5), none, Vec::new(alloc), fails);
-    let mut sink = MemorySink::create(alloc, single(alloc, run.failing_write)?);
-    let end = drive(
-        alloc,
-        &mut client,
-        &script,
-        NODE,
-        &mut wire,
-        &mut clock,
-        &mut sink,
-    );
-    Ok(end == run.end && wire.sent().len() == run.sent && sink.bytes() == run.text)
+    let script = script(alloc, run)?;
+    let mut clock = clock(alloc, run)?;
+    let mut wire = wire(alloc, run)?;
+    let mut sink = sink(alloc, run)?;
+    let end = drive_new(alloc, &script, &mut wire, &mut clock, &mut sink)?;
+    Ok(end == Some(run.end) && wire.sent().len() == run.sent && sink.bytes() == run.text)
 }
 
 /// The first row that comes out otherwise.
