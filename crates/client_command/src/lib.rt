@@ -1,0 +1,14 @@
+//! The command that drives a client through a script, below the top call: it makes the client,
+//! binds any free port, drives, and writes a last line where the client stalled or the wire failed.
+//!
+//! A contract says, by how the command ended, what was bound, received, sent and written, and which
+//! object's last call failed. The turns are those of `wire_loop`. The top call does not offer the
+//! command yet.
+#![tactic(auto)]
+
+mod command;
+mod ends;
+mod lines;
+
+pub use command::drive_client;
+pub use ends::ClientEnd;
