@@ -1,7 +1,5 @@
 -- How the command ends, by how its client was driven and what became of the last line.
-use Rattle.std.proofs.Common.{◌≡◌, true, inl, inr, ℕ, ◌≤◌, List, [], ◌++◌, length, Option, Some, None, refl, sym, ap, subst, ◌∙◌, arith}
-use Rattle.std.specs.Prelude.{take}
-use Rattle.std.specs.Option.{option_map}
+use Rattle.std.proofs.Common.{◌≡◌, true, inl, inr, ℕ, List, [], Option, Some, None, refl, sym, ap, subst, ◌∙◌, arith}
 use Rattle.std.proofs.lemmas.List.{append-nil}
 use Rattle.cl_outside.specs.Clock.{Moments}
 use Rattle.cl_outside.specs.Counts.{LastFailed, NoneFailed, after_fault, after_good, one_more}
@@ -17,8 +15,8 @@ use Rattle.texts.specs.Text.{Text}
 use Rattle.wire_loop.specs.Driving.{DriveStop, AllEnded, Stalled, WireFailed}
 use Rattle.wire_loop.specs.Drives.{BreaksOff, Drives}
 use Rattle.wire_loop.specs.Serves.{Told, told_of}
-use Rattle.client_command.specs.Lines.{EndsStalled, EndsWireFault, stalled_line, wire_fault_line}
-use Rattle.client_command.specs.Ends.{BindsAny, BrokenOff, CountsStop, CutIn, DrivenTo, Ends, FaultLine, LastLine, Outside, StopsAt, Task, Unbound}
+use Rattle.client_command.specs.Lines.{EndsStalled, EndsWireFault, stalled_line}
+use Rattle.client_command.specs.Ends.{BindsAny, BrokenOff, CountsStop, DrivenTo, Ends, FaultLine, LastLine, Outside, Task, Unbound}
 use Rattle.client_command.specs.declared.ends.ClientEnd.{ClientEnd}
 use Rattle.client_command.specs.declared.ends.ClientEnd.TheVariants as end
 
@@ -65,7 +63,8 @@ pub driven_to : (t : Task) (before between after : Outside) (port : ℕ) (first 
 driven_to t before between after port first client printed stop node found is_first is_node drives counts stays = record {
   port = port;
   bound = stays ∙ found.bound;
-  drives = subst (λ (s : ClientState). Drives s client t.script t.node before.told after.told before.written printed stop) is_first
+  drives =
+      subst (λ (s : ClientState). Drives s client t.script t.node before.told after.told before.written printed stop) is_first
       (subst (λ (n : Peer). Drives first client t.script n before.told after.told before.written printed stop) is_node
       (subst (λ (told : Told). Drives first client t.script node told after.told before.written printed stop) found.told drives));
   wire = good_before_stop stop before.wire_faults between.wire_faults after.wire_faults found.good counts;
@@ -79,7 +78,8 @@ pub broken_off : (t : Task) (before between after : Outside) (port : ℕ) (first
 broken_off t before between after port first node found is_first is_node breaks none stays = record {
   port = port;
   bound = stays ∙ found.bound;
-  breaks = subst (λ (s : ClientState). BreaksOff s t.script t.node before.told after.told before.written after.written) is_first
+  breaks =
+      subst (λ (s : ClientState). BreaksOff s t.script t.node before.told after.told before.written after.written) is_first
       (subst (λ (n : Peer). BreaksOff first t.script n before.told after.told before.written after.written) is_node
       (subst (λ (told : Told). BreaksOff first t.script node told after.told before.written after.written) found.told breaks));
   wire = none ∙ ap (λ (f : Faults). f.count) found.good;
@@ -96,7 +96,8 @@ stalled_ends t before after client moment turns printed faults driven none are e
     (client, moment, record { printed = printed; driven = driven; line = line; sink = says.1 ∙ none })
 stalled_ends t before after client moment turns printed faults driven none are end.WriteFault says =
     let front = subst (λ (n : ℕ). WroteFront (stalled_line moment n) printed after.written) are says.0 in
-    (LastLine client (Stalled moment) printed driven front, last_after_none before.write_faults faults after.write_faults none says.1)
+    (LastLine client (Stalled moment) printed driven front,
+      last_after_none before.write_faults faults after.write_faults none says.1)
 stalled_ends t before after client moment turns printed faults driven none are end.NoMemory says =
     let front = front_of_nothing (stalled_line moment STALL_TURNS) printed after.written says.0 in
     record { came = inr (LastLine client (Stalled moment) printed driven front); wire = driven.wire; sink = says.1 ∙ none }

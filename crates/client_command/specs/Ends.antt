@@ -3,11 +3,10 @@ use Rattle.std.specs.Prelude.{◌≡◌, ◌⊎◌, ℕ, List, []}
 use Rattle.std.specs.Option.{option_map}
 use Rattle.std.specs.declared.option.Option.{Option}
 use Rattle.std.specs.declared.option.Option.TheVariants.{Some}
-use Rattle.cl_outside.specs.Clock.{Moments}
 use Rattle.cl_outside.specs.Counts.{LastFailed, NoneFailed}
 use Rattle.cl_outside.specs.Loops.{WroteFront}
 use Rattle.cl_outside.specs.Told.{Added}
-use Rattle.cl_outside.specs.Wire.{Binding, Message}
+use Rattle.cl_outside.specs.Wire.{Binding}
 use Rattle.cl_outside.specs.declared.faults.Faults.{Faults}
 use Rattle.cl_outside.specs.declared.wire.Bound.{Bound}
 use Rattle.cl_outside.specs.declared.wire.Bound.TheVariants as bound
@@ -19,7 +18,7 @@ use Rattle.client_model.specs.Client.{ClientState, new_client}
 use Rattle.texts.specs.Text.{Text}
 use Rattle.wire_loop.specs.Driving.{DriveStop, AllEnded, Stalled, WireFailed}
 use Rattle.wire_loop.specs.Drives.{BreaksOff, Drives}
-use Rattle.wire_loop.specs.Serves.{Told, told_of}
+use Rattle.wire_loop.specs.Serves.{Told}
 use Rattle.client_command.specs.Lines.{stalled_line, wire_fault_line}
 use Rattle.client_command.specs.declared.ends.ClientEnd.{ClientEnd}
 use Rattle.client_command.specs.declared.ends.ClientEnd.TheVariants as end
@@ -80,13 +79,13 @@ CountsStop WireFailed before now = LastFailed before now
 CountsStop other before now = NoneFailed before now
 
 -- ---- how far a client comes
--- no port was free: nothing was received or sent, and the clock was not asked
+-- the bind failed: nothing was received or sent, and the clock was not asked
 pub record Unbound (before after : Outside) : Type 0 where
   pub bound : BindsAny bound.Failed before after
   pub passed : after.told ≡ before.told
   pub wire : LastFailed before.wire_faults after.wire_faults
 
--- on a port that was free the client was driven to this stop, where it stands so and this was written
+-- on a free port the client was driven to this stop: it is now this one, and its turns wrote the text up to here
 pub record DrivenTo (t : Task) (client : ClientState) (stop : DriveStop) (before after : Outside)
     (printed : Option (List ℕ)) : Type 0 where
   pub port : ℕ
@@ -95,7 +94,7 @@ pub record DrivenTo (t : Task) (client : ClientState) (stop : DriveStop) (before
   pub drives : Drives t.client client t.script t.node before.told after.told before.written printed stop
   pub wire : CountsStop stop before.wire_faults after.wire_faults
 
--- on a port that was free the driving broke off in a turn, of whose text a front was written
+-- on a free port the driving broke off in a turn, of whose text a front was written
 pub record BrokenOff (t : Task) (before after : Outside) : Type 0 where
   pub port : ℕ
   pub bound : BindsAny (bound.Port port) before after
@@ -110,7 +109,7 @@ pub record StopsAt (t : Task) (client : ClientState) (stop : DriveStop) (before 
   pub line : Added (last_line stop) printed after.written
   pub sink : NoneFailed before.write_faults after.write_faults
 
--- no port was free, and the line of that was written
+-- the bind failed, and the line of that was written
 pub record StopsUnbound (before after : Outside) : Type 0 where
   pub unbound : Unbound before after
   pub line : Added wire_fault_line before.written after.written
@@ -119,15 +118,17 @@ pub record StopsUnbound (before after : Outside) : Type 0 where
 -- ---- a text that was cut
 -- a front of the text was written, up to somewhere in this
 pub data CutIn (t : Task) (before after : Outside) : Type 0 where
-  -- the line of a wire that has no port
-  FaultLine : (unbound : Unbound before after) → (front : WroteFront wire_fault_line before.written after.written) → CutIn t before after
+  -- the line of a bind that failed
+  FaultLine : (unbound : Unbound before after) → (front : WroteFront wire_fault_line before.written after.written)
+      → CutIn t before after
   -- the text of a turn
   TurnText : (broken : BrokenOff t before after) → CutIn t before after
   -- the line of a stop
   LastLine : (client : ClientState) → (stop : DriveStop) → (printed : Option (List ℕ))
-      → (driven : DrivenTo t client stop before after printed) → (front : WroteFront (last_line stop) printed after.written) → CutIn t before after
+      → (driven : DrivenTo t client stop before after printed) → (front : WroteFront (last_line stop) printed after.written)
+      → CutIn t before after
 
--- memory was short: nothing was done, or the text was cut, and no call failed
+-- an allocation was refused: nothing was done, or the text was cut, and no call failed
 pub record OutOfMemory (t : Task) (before after : Outside) : Type 0 where
   pub came : (after ≡ before) ⊎ CutIn t before after
   pub wire : NoneFailed before.wire_faults after.wire_faults

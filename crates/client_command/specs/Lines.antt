@@ -19,11 +19,13 @@ stalled_line moment turns = line_of (codes "stalled: moment" ∷ decimal moment 
 
 -- the line of a failure of the wire was written, whole, or of all writes the last alone failed
 abbrev pub EndsWireFault : Option (List ℕ) → Option (List ℕ) → Faults → Faults → ClientEnd → Type 0
-EndsWireFault before after faults faults_after end.WireFault = Added wire_fault_line before after × NoneFailed faults faults_after
-EndsWireFault before after faults faults_after end.WriteFault = WroteFront wire_fault_line before after × LastFailed faults faults_after
+EndsWireFault before after faults faults_after end.WireFault =
+    Added wire_fault_line before after × NoneFailed faults faults_after
+EndsWireFault before after faults faults_after end.WriteFault =
+    WroteFront wire_fault_line before after × LastFailed faults faults_after
 EndsWireFault before after faults faults_after other = ⊥
 
--- the line of a stall was written, whole, or of all writes the last alone failed, or nothing was written for lack of memory
+-- the line of a stall was written, whole, or of all writes the last alone failed, or nothing was written, out of memory
 abbrev pub EndsStalled : Text → Option (List ℕ) → Option (List ℕ) → Faults → Faults → ClientEnd → Type 0
 EndsStalled line before after faults faults_after end.Stalled = Added line before after × NoneFailed faults faults_after
 EndsStalled line before after faults faults_after end.WriteFault = WroteFront line before after × LastFailed faults faults_after
