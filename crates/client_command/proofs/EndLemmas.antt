@@ -95,9 +95,10 @@ stalled_ends t before after client moment turns printed faults driven none are e
     let line = subst (λ (n : ℕ). Added (stalled_line moment n) printed after.written) are says.0 in
     (client, moment, record { printed = printed; driven = driven; line = line; sink = says.1 ∙ none })
 stalled_ends t before after client moment turns printed faults driven none are end.WriteFault says =
-    let front = subst (λ (n : ℕ). WroteFront (stalled_line moment n) printed after.written) are says.0 in
-    (LastLine client (Stalled moment) printed driven front,
-      last_after_none before.write_faults faults after.write_faults none says.1)
+    let front = subst (λ (n : ℕ). WroteFront (stalled_line moment n) printed after.written) are says.0 in (
+      LastLine client (Stalled moment) printed driven front,
+      last_after_none before.write_faults faults after.write_faults none says.1,
+    )
 stalled_ends t before after client moment turns printed faults driven none are end.NoMemory says =
     let front = front_of_nothing (stalled_line moment STALL_TURNS) printed after.written says.0 in
     record { came = inr (LastLine client (Stalled moment) printed driven front); wire = driven.wire; sink = says.1 ∙ none }

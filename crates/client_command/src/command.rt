@@ -43,9 +43,9 @@ pub fn drive_client<W: Wire, C: Clock, K: Sink>(
     requires few { length script.now.calls ≤ INPUT_LINES }
     ensures { Ends (task_of node_port no pid script.now.calls)
         (outside (told_of (W.coming wire.old) (W.sent wire.old) (C.moments clock.old))
-            (W.last_bind wire.old) (W.faults wire.old) (K.written sink.old) (K.faults sink.old))
+        (W.last_bind wire.old) (W.faults wire.old) (K.written sink.old) (K.faults sink.old))
         (outside (told_of (W.coming wire.new) (W.sent wire.new) (C.moments clock.new))
-            (W.last_bind wire.new) (W.faults wire.new) (K.written sink.new) (K.faults sink.new))
+        (W.last_bind wire.new) (W.faults wire.new) (K.written sink.new) (K.faults sink.new))
         result }
 {
     let Ok(client) = Client::create(alloc, no, pid) else {
@@ -55,7 +55,15 @@ pub fn drive_client<W: Wire, C: Clock, K: Sink>(
         return end_wire_fault(sink);
     };
     let mut client = client;
-    match drive(alloc, &mut client, script, peer_at(node_port), wire, clock, sink) {
+    match drive(
+        alloc,
+        &mut client,
+        script,
+        peer_at(node_port),
+        wire,
+        clock,
+        sink,
+    ) {
         DriveEnd::AllEnded => ClientEnd::Driven(client),
         DriveEnd::Stalled { moment, turns } => end_stalled(alloc, moment, turns, sink),
         DriveEnd::WireFault => end_wire_fault(sink),

@@ -20,50 +20,50 @@ returns-in_default g c = record { came = inl refl; wire = refl; sink = refl }
 pub returns-in_default-bind : goal.returns-in_default-bind
 returns-in_default-bind g c =
     let before =
-        outside
-        (told_of (g.W.Wire.coming c.args.wire.now) (g.W.Wire.sent c.args.wire.now) (g.C.Clock.moments c.args.clock.now))
-        (g.W.Wire.last_bind c.args.wire.now) (g.W.Wire.faults c.args.wire.now)
-        (g.K.Sink.written c.args.sink.now) (g.K.Sink.faults c.args.sink.now) in
+    outside
+    (told_of (g.W.Wire.coming c.args.wire.now) (g.W.Wire.sent c.args.wire.now) (g.C.Clock.moments c.args.clock.now))
+    (g.W.Wire.last_bind c.args.wire.now) (g.W.Wire.faults c.args.wire.now)
+    (g.K.Sink.written c.args.sink.now) (g.K.Sink.faults c.args.sink.now) in
     let after =
-        outside
-        (told_of (g.W.Wire.coming c.bind.new.self) (g.W.Wire.sent c.bind.new.self) (g.C.Clock.moments c.args.clock.now))
-        (g.W.Wire.last_bind c.bind.new.self) (g.W.Wire.faults c.bind.new.self)
-        (g.K.Sink.written c.end_wire_fault.new.sink) (g.K.Sink.faults c.end_wire_fault.new.sink) in
+    outside
+    (told_of (g.W.Wire.coming c.bind.new.self) (g.W.Wire.sent c.bind.new.self) (g.C.Clock.moments c.args.clock.now))
+    (g.W.Wire.last_bind c.bind.new.self) (g.W.Wire.faults c.bind.new.self)
+    (g.K.Sink.written c.end_wire_fault.new.sink) (g.K.Sink.faults c.end_wire_fault.new.sink) in
     unbound_ends (task_of c.args.node_port c.args.no c.args.pid c.args.script.now.calls) before after
-        (record {
-          bound = c.in_default-bind.ensures.last_bind;
-          passed = told_same _ _ _ _ _ c.bind.ensures.coming c.bind.ensures.sent;
-          wire = c.in_default-bind.ensures.cause;
-        }) c.end_wire_fault.result c.end_wire_fault.ensures
+    (record {
+      bound = c.in_default-bind.ensures.last_bind;
+      passed = told_same _ _ _ _ _ c.bind.ensures.coming c.bind.ensures.sent;
+      wire = c.in_default-bind.ensures.cause;
+    }) c.end_wire_fault.result c.end_wire_fault.ensures
 
 pub returns-in-AllEnded : goal.returns-in-AllEnded
 returns-in-AllEnded g c =
     let before =
-        outside
-        (told_of (g.W.Wire.coming c.args.wire.now) (g.W.Wire.sent c.args.wire.now) (g.C.Clock.moments c.args.clock.now))
-        (g.W.Wire.last_bind c.args.wire.now) (g.W.Wire.faults c.args.wire.now)
-        (g.K.Sink.written c.args.sink.now) (g.K.Sink.faults c.args.sink.now) in
+    outside
+    (told_of (g.W.Wire.coming c.args.wire.now) (g.W.Wire.sent c.args.wire.now) (g.C.Clock.moments c.args.clock.now))
+    (g.W.Wire.last_bind c.args.wire.now) (g.W.Wire.faults c.args.wire.now)
+    (g.K.Sink.written c.args.sink.now) (g.K.Sink.faults c.args.sink.now) in
     let between =
-        outside
-        (told_of (g.W.Wire.coming c.bind.new.self) (g.W.Wire.sent c.bind.new.self) (g.C.Clock.moments c.args.clock.now))
-        (g.W.Wire.last_bind c.bind.new.self) (g.W.Wire.faults c.bind.new.self)
-        (g.K.Sink.written c.args.sink.now) (g.K.Sink.faults c.args.sink.now) in
+    outside
+    (told_of (g.W.Wire.coming c.bind.new.self) (g.W.Wire.sent c.bind.new.self) (g.C.Clock.moments c.args.clock.now))
+    (g.W.Wire.last_bind c.bind.new.self) (g.W.Wire.faults c.bind.new.self)
+    (g.K.Sink.written c.args.sink.now) (g.K.Sink.faults c.args.sink.now) in
     let after =
-        outside
-        (told_of (g.W.Wire.coming c.drive.new.wire) (g.W.Wire.sent c.drive.new.wire) (g.C.Clock.moments c.drive.new.clock))
-        (g.W.Wire.last_bind c.drive.new.wire) (g.W.Wire.faults c.drive.new.wire)
-        (g.K.Sink.written c.drive.new.sink) (g.K.Sink.faults c.drive.new.sink) in
+    outside
+    (told_of (g.W.Wire.coming c.drive.new.wire) (g.W.Wire.sent c.drive.new.wire) (g.C.Clock.moments c.drive.new.clock))
+    (g.W.Wire.last_bind c.drive.new.wire) (g.W.Wire.faults c.drive.new.wire)
+    (g.K.Sink.written c.drive.new.sink) (g.K.Sink.faults c.drive.new.sink) in
     let found : Found c.in-Port._port before between = record {
       bound = c.in-Port.ensures.last_bind;
       told = told_same _ _ _ _ _ c.bind.ensures.coming c.bind.ensures.sent;
       good = c.in-Port.ensures.cause;
     } in
     let driven =
-        driven_to (task_of c.args.node_port c.args.no c.args.pid c.args.script.now.calls) before between after
-        c.in-Port._port c.in-Ok.client c.drive.new.client (g.K.Sink.written c.drive.new.sink)
-        AllEnded c.peer_at.result found
-        c.in-Ok.ensures.new c.peer_at.ensures
-        c.in-AllEnded.ensures.drives c.in-AllEnded.ensures.counts.0 c.drive.ensures.bind in
+    driven_to (task_of c.args.node_port c.args.no c.args.pid c.args.script.now.calls) before between after
+    c.in-Port._port c.in-Ok.client c.drive.new.client (g.K.Sink.written c.drive.new.sink)
+    AllEnded c.peer_at.result found
+    c.in-Ok.ensures.new c.peer_at.ensures
+    c.in-AllEnded.ensures.drives c.in-AllEnded.ensures.counts.0 c.drive.ensures.bind in
     record {
       printed = g.K.Sink.written c.drive.new.sink;
       driven = driven;
@@ -74,122 +74,122 @@ returns-in-AllEnded g c =
 pub returns-in-Stalled : goal.returns-in-Stalled
 returns-in-Stalled g c =
     let before =
-        outside
-        (told_of (g.W.Wire.coming c.args.wire.now) (g.W.Wire.sent c.args.wire.now) (g.C.Clock.moments c.args.clock.now))
-        (g.W.Wire.last_bind c.args.wire.now) (g.W.Wire.faults c.args.wire.now)
-        (g.K.Sink.written c.args.sink.now) (g.K.Sink.faults c.args.sink.now) in
+    outside
+    (told_of (g.W.Wire.coming c.args.wire.now) (g.W.Wire.sent c.args.wire.now) (g.C.Clock.moments c.args.clock.now))
+    (g.W.Wire.last_bind c.args.wire.now) (g.W.Wire.faults c.args.wire.now)
+    (g.K.Sink.written c.args.sink.now) (g.K.Sink.faults c.args.sink.now) in
     let between =
-        outside
-        (told_of (g.W.Wire.coming c.bind.new.self) (g.W.Wire.sent c.bind.new.self) (g.C.Clock.moments c.args.clock.now))
-        (g.W.Wire.last_bind c.bind.new.self) (g.W.Wire.faults c.bind.new.self)
-        (g.K.Sink.written c.args.sink.now) (g.K.Sink.faults c.args.sink.now) in
+    outside
+    (told_of (g.W.Wire.coming c.bind.new.self) (g.W.Wire.sent c.bind.new.self) (g.C.Clock.moments c.args.clock.now))
+    (g.W.Wire.last_bind c.bind.new.self) (g.W.Wire.faults c.bind.new.self)
+    (g.K.Sink.written c.args.sink.now) (g.K.Sink.faults c.args.sink.now) in
     let after =
-        outside
-        (told_of (g.W.Wire.coming c.drive.new.wire) (g.W.Wire.sent c.drive.new.wire) (g.C.Clock.moments c.drive.new.clock))
-        (g.W.Wire.last_bind c.drive.new.wire) (g.W.Wire.faults c.drive.new.wire)
-        (g.K.Sink.written c.end_stalled.new.sink) (g.K.Sink.faults c.end_stalled.new.sink) in
+    outside
+    (told_of (g.W.Wire.coming c.drive.new.wire) (g.W.Wire.sent c.drive.new.wire) (g.C.Clock.moments c.drive.new.clock))
+    (g.W.Wire.last_bind c.drive.new.wire) (g.W.Wire.faults c.drive.new.wire)
+    (g.K.Sink.written c.end_stalled.new.sink) (g.K.Sink.faults c.end_stalled.new.sink) in
     let found : Found c.in-Port._port before between = record {
       bound = c.in-Port.ensures.last_bind;
       told = told_same _ _ _ _ _ c.bind.ensures.coming c.bind.ensures.sent;
       good = c.in-Port.ensures.cause;
     } in
     let driven =
-        driven_to (task_of c.args.node_port c.args.no c.args.pid c.args.script.now.calls) before between after
-        c.in-Port._port c.in-Ok.client c.drive.new.client (g.K.Sink.written c.drive.new.sink)
-        (Stalled c.in-Stalled.moment) c.peer_at.result found
-        c.in-Ok.ensures.new c.peer_at.ensures
-        c.in-Stalled.ensures.drives.1 c.in-Stalled.ensures.counts.0 c.drive.ensures.bind in
+    driven_to (task_of c.args.node_port c.args.no c.args.pid c.args.script.now.calls) before between after
+    c.in-Port._port c.in-Ok.client c.drive.new.client (g.K.Sink.written c.drive.new.sink)
+    (Stalled c.in-Stalled.moment) c.peer_at.result found
+    c.in-Ok.ensures.new c.peer_at.ensures
+    c.in-Stalled.ensures.drives.1 c.in-Stalled.ensures.counts.0 c.drive.ensures.bind in
     stalled_ends (task_of c.args.node_port c.args.no c.args.pid c.args.script.now.calls) before after
-        c.drive.new.client c.in-Stalled.moment c.in-Stalled.turns
-        (g.K.Sink.written c.drive.new.sink) (g.K.Sink.faults c.drive.new.sink)
-        driven c.in-Stalled.ensures.counts.1 c.in-Stalled.ensures.drives.0 c.end_stalled.result c.end_stalled.ensures
+    c.drive.new.client c.in-Stalled.moment c.in-Stalled.turns
+    (g.K.Sink.written c.drive.new.sink) (g.K.Sink.faults c.drive.new.sink)
+    driven c.in-Stalled.ensures.counts.1 c.in-Stalled.ensures.drives.0 c.end_stalled.result c.end_stalled.ensures
 
 pub returns-in-WireFault : goal.returns-in-WireFault
 returns-in-WireFault g c =
     let before =
-        outside
-        (told_of (g.W.Wire.coming c.args.wire.now) (g.W.Wire.sent c.args.wire.now) (g.C.Clock.moments c.args.clock.now))
-        (g.W.Wire.last_bind c.args.wire.now) (g.W.Wire.faults c.args.wire.now)
-        (g.K.Sink.written c.args.sink.now) (g.K.Sink.faults c.args.sink.now) in
+    outside
+    (told_of (g.W.Wire.coming c.args.wire.now) (g.W.Wire.sent c.args.wire.now) (g.C.Clock.moments c.args.clock.now))
+    (g.W.Wire.last_bind c.args.wire.now) (g.W.Wire.faults c.args.wire.now)
+    (g.K.Sink.written c.args.sink.now) (g.K.Sink.faults c.args.sink.now) in
     let between =
-        outside
-        (told_of (g.W.Wire.coming c.bind.new.self) (g.W.Wire.sent c.bind.new.self) (g.C.Clock.moments c.args.clock.now))
-        (g.W.Wire.last_bind c.bind.new.self) (g.W.Wire.faults c.bind.new.self)
-        (g.K.Sink.written c.args.sink.now) (g.K.Sink.faults c.args.sink.now) in
+    outside
+    (told_of (g.W.Wire.coming c.bind.new.self) (g.W.Wire.sent c.bind.new.self) (g.C.Clock.moments c.args.clock.now))
+    (g.W.Wire.last_bind c.bind.new.self) (g.W.Wire.faults c.bind.new.self)
+    (g.K.Sink.written c.args.sink.now) (g.K.Sink.faults c.args.sink.now) in
     let after =
-        outside
-        (told_of (g.W.Wire.coming c.drive.new.wire) (g.W.Wire.sent c.drive.new.wire) (g.C.Clock.moments c.drive.new.clock))
-        (g.W.Wire.last_bind c.drive.new.wire) (g.W.Wire.faults c.drive.new.wire)
-        (g.K.Sink.written c.end_wire_fault-in-WireFault.new.sink) (g.K.Sink.faults c.end_wire_fault-in-WireFault.new.sink) in
+    outside
+    (told_of (g.W.Wire.coming c.drive.new.wire) (g.W.Wire.sent c.drive.new.wire) (g.C.Clock.moments c.drive.new.clock))
+    (g.W.Wire.last_bind c.drive.new.wire) (g.W.Wire.faults c.drive.new.wire)
+    (g.K.Sink.written c.end_wire_fault-in-WireFault.new.sink) (g.K.Sink.faults c.end_wire_fault-in-WireFault.new.sink) in
     let found : Found c.in-Port._port before between = record {
       bound = c.in-Port.ensures.last_bind;
       told = told_same _ _ _ _ _ c.bind.ensures.coming c.bind.ensures.sent;
       good = c.in-Port.ensures.cause;
     } in
     let driven =
-        driven_to (task_of c.args.node_port c.args.no c.args.pid c.args.script.now.calls) before between after
-        c.in-Port._port c.in-Ok.client c.drive.new.client (g.K.Sink.written c.drive.new.sink)
-        WireFailed c.peer_at.result found
-        c.in-Ok.ensures.new c.peer_at.ensures
-        c.in-WireFault.ensures.drives c.in-WireFault.ensures.counts.0 c.drive.ensures.bind in
+    driven_to (task_of c.args.node_port c.args.no c.args.pid c.args.script.now.calls) before between after
+    c.in-Port._port c.in-Ok.client c.drive.new.client (g.K.Sink.written c.drive.new.sink)
+    WireFailed c.peer_at.result found
+    c.in-Ok.ensures.new c.peer_at.ensures
+    c.in-WireFault.ensures.drives c.in-WireFault.ensures.counts.0 c.drive.ensures.bind in
     fault_ends (task_of c.args.node_port c.args.no c.args.pid c.args.script.now.calls) before after
-        c.drive.new.client (g.K.Sink.written c.drive.new.sink) (g.K.Sink.faults c.drive.new.sink)
-        driven c.in-WireFault.ensures.counts.1 c.end_wire_fault-in-WireFault.result c.end_wire_fault-in-WireFault.ensures
+    c.drive.new.client (g.K.Sink.written c.drive.new.sink) (g.K.Sink.faults c.drive.new.sink)
+    driven c.in-WireFault.ensures.counts.1 c.end_wire_fault-in-WireFault.result c.end_wire_fault-in-WireFault.ensures
 
 pub returns-in-WriteFault : goal.returns-in-WriteFault
 returns-in-WriteFault g c =
     let before =
-        outside
-        (told_of (g.W.Wire.coming c.args.wire.now) (g.W.Wire.sent c.args.wire.now) (g.C.Clock.moments c.args.clock.now))
-        (g.W.Wire.last_bind c.args.wire.now) (g.W.Wire.faults c.args.wire.now)
-        (g.K.Sink.written c.args.sink.now) (g.K.Sink.faults c.args.sink.now) in
+    outside
+    (told_of (g.W.Wire.coming c.args.wire.now) (g.W.Wire.sent c.args.wire.now) (g.C.Clock.moments c.args.clock.now))
+    (g.W.Wire.last_bind c.args.wire.now) (g.W.Wire.faults c.args.wire.now)
+    (g.K.Sink.written c.args.sink.now) (g.K.Sink.faults c.args.sink.now) in
     let between =
-        outside
-        (told_of (g.W.Wire.coming c.bind.new.self) (g.W.Wire.sent c.bind.new.self) (g.C.Clock.moments c.args.clock.now))
-        (g.W.Wire.last_bind c.bind.new.self) (g.W.Wire.faults c.bind.new.self)
-        (g.K.Sink.written c.args.sink.now) (g.K.Sink.faults c.args.sink.now) in
+    outside
+    (told_of (g.W.Wire.coming c.bind.new.self) (g.W.Wire.sent c.bind.new.self) (g.C.Clock.moments c.args.clock.now))
+    (g.W.Wire.last_bind c.bind.new.self) (g.W.Wire.faults c.bind.new.self)
+    (g.K.Sink.written c.args.sink.now) (g.K.Sink.faults c.args.sink.now) in
     let after =
-        outside
-        (told_of (g.W.Wire.coming c.drive.new.wire) (g.W.Wire.sent c.drive.new.wire) (g.C.Clock.moments c.drive.new.clock))
-        (g.W.Wire.last_bind c.drive.new.wire) (g.W.Wire.faults c.drive.new.wire)
-        (g.K.Sink.written c.drive.new.sink) (g.K.Sink.faults c.drive.new.sink) in
+    outside
+    (told_of (g.W.Wire.coming c.drive.new.wire) (g.W.Wire.sent c.drive.new.wire) (g.C.Clock.moments c.drive.new.clock))
+    (g.W.Wire.last_bind c.drive.new.wire) (g.W.Wire.faults c.drive.new.wire)
+    (g.K.Sink.written c.drive.new.sink) (g.K.Sink.faults c.drive.new.sink) in
     let found : Found c.in-Port._port before between = record {
       bound = c.in-Port.ensures.last_bind;
       told = told_same _ _ _ _ _ c.bind.ensures.coming c.bind.ensures.sent;
       good = c.in-Port.ensures.cause;
     } in
     let broken =
-        broken_off (task_of c.args.node_port c.args.no c.args.pid c.args.script.now.calls) before between after
-        c.in-Port._port c.in-Ok.client c.peer_at.result found
-        c.in-Ok.ensures.new c.peer_at.ensures
-        c.in-WriteFault.ensures.drives c.in-WriteFault.ensures.counts.0 c.drive.ensures.bind in
+    broken_off (task_of c.args.node_port c.args.no c.args.pid c.args.script.now.calls) before between after
+    c.in-Port._port c.in-Ok.client c.peer_at.result found
+    c.in-Ok.ensures.new c.peer_at.ensures
+    c.in-WriteFault.ensures.drives c.in-WriteFault.ensures.counts.0 c.drive.ensures.bind in
     (TurnText broken, c.in-WriteFault.ensures.counts.1)
 
 pub returns-in-NoMemory : goal.returns-in-NoMemory
 returns-in-NoMemory g c =
     let before =
-        outside
-        (told_of (g.W.Wire.coming c.args.wire.now) (g.W.Wire.sent c.args.wire.now) (g.C.Clock.moments c.args.clock.now))
-        (g.W.Wire.last_bind c.args.wire.now) (g.W.Wire.faults c.args.wire.now)
-        (g.K.Sink.written c.args.sink.now) (g.K.Sink.faults c.args.sink.now) in
+    outside
+    (told_of (g.W.Wire.coming c.args.wire.now) (g.W.Wire.sent c.args.wire.now) (g.C.Clock.moments c.args.clock.now))
+    (g.W.Wire.last_bind c.args.wire.now) (g.W.Wire.faults c.args.wire.now)
+    (g.K.Sink.written c.args.sink.now) (g.K.Sink.faults c.args.sink.now) in
     let between =
-        outside
-        (told_of (g.W.Wire.coming c.bind.new.self) (g.W.Wire.sent c.bind.new.self) (g.C.Clock.moments c.args.clock.now))
-        (g.W.Wire.last_bind c.bind.new.self) (g.W.Wire.faults c.bind.new.self)
-        (g.K.Sink.written c.args.sink.now) (g.K.Sink.faults c.args.sink.now) in
+    outside
+    (told_of (g.W.Wire.coming c.bind.new.self) (g.W.Wire.sent c.bind.new.self) (g.C.Clock.moments c.args.clock.now))
+    (g.W.Wire.last_bind c.bind.new.self) (g.W.Wire.faults c.bind.new.self)
+    (g.K.Sink.written c.args.sink.now) (g.K.Sink.faults c.args.sink.now) in
     let after =
-        outside
-        (told_of (g.W.Wire.coming c.drive.new.wire) (g.W.Wire.sent c.drive.new.wire) (g.C.Clock.moments c.drive.new.clock))
-        (g.W.Wire.last_bind c.drive.new.wire) (g.W.Wire.faults c.drive.new.wire)
-        (g.K.Sink.written c.drive.new.sink) (g.K.Sink.faults c.drive.new.sink) in
+    outside
+    (told_of (g.W.Wire.coming c.drive.new.wire) (g.W.Wire.sent c.drive.new.wire) (g.C.Clock.moments c.drive.new.clock))
+    (g.W.Wire.last_bind c.drive.new.wire) (g.W.Wire.faults c.drive.new.wire)
+    (g.K.Sink.written c.drive.new.sink) (g.K.Sink.faults c.drive.new.sink) in
     let found : Found c.in-Port._port before between = record {
       bound = c.in-Port.ensures.last_bind;
       told = told_same _ _ _ _ _ c.bind.ensures.coming c.bind.ensures.sent;
       good = c.in-Port.ensures.cause;
     } in
     let broken =
-        broken_off (task_of c.args.node_port c.args.no c.args.pid c.args.script.now.calls) before between after
-        c.in-Port._port c.in-Ok.client c.peer_at.result found
-        c.in-Ok.ensures.new c.peer_at.ensures
-        c.in-NoMemory.ensures.drives c.in-NoMemory.ensures.counts.0 c.drive.ensures.bind in
+    broken_off (task_of c.args.node_port c.args.no c.args.pid c.args.script.now.calls) before between after
+    c.in-Port._port c.in-Ok.client c.peer_at.result found
+    c.in-Ok.ensures.new c.peer_at.ensures
+    c.in-NoMemory.ensures.drives c.in-NoMemory.ensures.counts.0 c.drive.ensures.bind in
     record { came = inr (TurnText broken); wire = broken.wire; sink = c.in-NoMemory.ensures.counts.1 }
