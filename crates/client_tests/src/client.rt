@@ -50,10 +50,18 @@ enum Hears {
 enum Step<'a> {
     /// A call is issued under this number.
     Issue(Asked, u32),
+    /// So many Writes of a byte are issued, each in a page of its own, under the numbers from 1.
+    IssueWrites(u16),
+    /// So many Fences are issued, under the numbers from 1.
+    IssueFences(u16),
     /// A call is not taken, since as many as may be are held.
     Full,
     /// A poll at a moment sends a frame of so many bytes: this part, for the first time, under this id.
     Send(u64, usize, (u32, u16), u64),
+    /// A poll at 0, into a buffer of sevens, leaves these bytes at its start.
+    Frame(&'a [u8]),
+    /// Polls at 0 send so many of the Writes of a byte, for the first time, each under its number as the id.
+    SendWrites(u16),
     /// It sends a part again: the same, and the id of its first sending.
     Again(u64, usize, (u32, u16), u64, u64),
     /// It gives up a part.
@@ -66,16 +74,10 @@ enum Step<'a> {
     Hear(u8, (u8, u8), &'a [u8], Hears),
     /// A call may go, or may not.
     Ready(u32, bool),
+    /// The client holds no call, or holds one.
+    Empty(bool),
     /// The call that ended first is handed out: its number, its answer and the bytes of its buffer.
     Done(u32, Answer, &'a [u8]),
-}
-
-/// A client of process 1.
-fn client(alloc: Global) -> Result<Client, NoMemory> {
-    let Some(pid) = try_pid(1) else {
-        return Err(NoMemory);
-    };
-    Client::create(alloc, ClientNo(1), pid)
 }
 
 /// So many bytes that aren't zeros.
@@ -181,12 +183,59 @@ fn sent(len: usize, name: (u32, u16), id: u64, orig: u64) -> Poll {
     }
 }
 
+/// Whether so many Writes of a byte are issued, each in a page of its own, under the numbers from 1.
+fn issues_writes(alloc: Global, client: &mut Client, count: u16) -> Result<bool, NoMemory> {
+    for no in 1..=count {
+        let no = no as u32;
+        let write = call(alloc, Asked::Write(no * 4096, 1))?;
+        if issue(client, write) != Some(Ok(CallNo(no))) {
+            return Ok(false);
+        }
+    }
+    Ok(true)
+}
+
+/// Whether so many Fences are issued, under the numbers from 1.
+fn issues_fences(client: &mut Client, count: u16) -> bool {
+    for no in 1..=count {
+        if issue(client, Call::Fence) != Some(Ok(CallNo(no as u32))) {
+            return false;
+        }
+    }
+    true
+}
+
+/// Whether polls at 0 send so many Writes of a byte, for the first time, each under its number as the id.
+fn sends_writes(client: &mut Client, count: u16) -> bool {
+    for no in 1..=count {
+        let id = no as u64;
+        if poll(client, 0) != Some(sent(31, (no as u32, 0), id, id)) {
+            return false;
+        }
+    }
+    true
+}
+
+/// Whether a poll at 0 leaves the frame at the start of a buffer of sevens.
+fn writes_frame(client: &mut Client, frame: &[u8]) -> bool {
+    let mut out = [7; 1200];
+    if client.last() != 0 {
+        return false;
+    }
+    client.poll(0, &mut out);
+    out.starts_with(frame)
+}
+
 /// Whether the step comes out so.
 fn comes(alloc: Global, client: &mut Client, step: Step) -> Result<bool, NoMemory> {
     Ok(match step {
         Step::Issue(asked, no) => issue(client, call(alloc, asked)?) == Some(Ok(CallNo(no))),
+        Step::IssueWrites(count) => issues_writes(alloc, client, count)?,
+        Step::IssueFences(count) => issues_fences(client, count),
         Step::Full => issue(client, Call::Fence) == Some(Err(IssueFault::QueueFull)),
         Step::Send(now, len, name, id) => poll(client, now) == Some(sent(len, name, id, id)),
+        Step::Frame(frame) => writes_frame(client, frame),
+        Step::SendWrites(count) => sends_writes(client, count),
         Step::Again(now, len, name, id, orig) => {
             poll(client, now) == Some(sent(len, name, id, orig))
         }
@@ -195,6 +244,7 @@ fn comes(alloc: Global, client: &mut Client, step: Step) -> Result<bool, NoMemor
         Step::Idle(now) => poll(client, now) == Some(Poll::Idle),
         Step::Hear(kind, ids, body, told) => hear(client, kind, ids, body) == heard(told, ids.1),
         Step::Ready(no, ready) => client.ready_at(CallNo(no)) == ready,
+        Step::Empty(empty) => client.is_empty() == empty,
         Step::Done(no, answer, bytes) => is_done(client, no, answer, bytes),
     })
 }
@@ -213,9 +263,12 @@ fn first_off(
     Ok(None)
 }
 
-/// The same of a new client.
+/// The same of a new client of process 1. No other function owns a client, since each that drops one takes the prover long.
 fn first_off_of_new(alloc: Global, steps: &[Step]) -> Result<Option<usize>, NoMemory> {
-    let mut client = client(alloc)?;
+    let Some(pid) = try_pid(1) else {
+        return Err(NoMemory);
+    };
+    let mut client = Client::create(alloc, ClientNo(1), pid)?;
     first_off(alloc, &mut client, steps)
 }
 
@@ -223,21 +276,12 @@ fn first_off_of_new(alloc: Global, steps: &[Step]) -> Result<Option<usize>, NoMe
 const FRAME: &[u8] =
     b"CL\x01\x01\0\x01\0\x01\0\0\0\0\0\0\0\x01\0\0\0\0\0\0\0\x01\0\x03\0\x01\x03\x07";
 
-/// Whether a new client's first poll writes the frame of its call, and leaves what stands behind it.
-fn writes_its_frame(alloc: Global) -> Result<bool, NoMemory> {
-    let mut client = client(alloc)?;
-    let mut out = [7; 1200];
-    let issued = issue(&mut client, call(alloc, Asked::Page)?);
-    if client.last() != 0 {
-        return Ok(false);
-    }
-    client.poll(0, &mut out);
-    Ok(issued == Some(Ok(CallNo(1))) && out.starts_with(FRAME))
-}
+/// The first poll writes the frame of the call, and leaves what stands behind it.
+const FIRST_FRAME: &[Step] = &[Step::Issue(Asked::Page, 1), Step::Frame(FRAME)];
 
 #[test]
 fn a_poll_writes_the_frame_of_the_part(rt: HostRuntime) -> Result<(), Fail> {
-    assert!(rt; writes_its_frame(rt.alloc())?);
+    assert_eq!(rt; first_off_of_new(rt.alloc(), FIRST_FRAME)?, None);
     Ok(())
 }
 
@@ -335,39 +379,22 @@ fn five_thousand_bytes_go_in_six_parts(rt: HostRuntime) -> Result<(), Fail> {
 
 /// Once 64 parts are in flight no further one goes until one of them is heard.
 const SIXTY_FIFTH: &[Step] = &[
+    Step::IssueWrites(65),
+    Step::SendWrites(64),
     Step::Idle(0),
     Step::Hear(WRITE, (5, 5), &[0], Hears::Ended(5, 0)),
     Step::Send(0, 31, (65, 0), 65),
 ];
 
-/// Whether 65 Writes are issued, and the first 64 sent; and then the first step that comes out otherwise.
-fn sends_64_and_one(alloc: Global) -> Result<(bool, Option<usize>), NoMemory> {
-    let mut client = client(alloc)?;
-    for no in 1..=65 {
-        if !comes(
-            alloc,
-            &mut client,
-            Step::Issue(Asked::Write(no * 4096, 1), no),
-        )? {
-            return Ok((false, None));
-        }
-    }
-    for no in 1..=64 {
-        if !comes(alloc, &mut client, Step::Send(0, 31, (no, 0), no as u64))? {
-            return Ok((false, None));
-        }
-    }
-    Ok((true, first_off(alloc, &mut client, SIXTY_FIFTH)?))
-}
-
 #[test]
 fn the_65th_part_waits_for_a_reply(rt: HostRuntime) -> Result<(), Fail> {
-    assert_eq!(rt; sends_64_and_one(rt.alloc())?, (true, None));
+    assert_eq!(rt; first_off_of_new(rt.alloc(), SIXTY_FIFTH)?, None);
     Ok(())
 }
 
 /// With 256 calls held no further one is taken until one is handed out.
 const HELD: &[Step] = &[
+    Step::IssueFences(256),
     Step::Full,
     Step::EndFence(0, 1),
     Step::Full,
@@ -376,33 +403,17 @@ const HELD: &[Step] = &[
     Step::Full,
 ];
 
-/// Whether 256 calls are issued; and then the first step that comes out otherwise.
-fn holds_256(alloc: Global) -> Result<(bool, Option<usize>), NoMemory> {
-    let mut client = client(alloc)?;
-    for no in 1..=256 {
-        if !comes(alloc, &mut client, Step::Issue(Asked::Fence, no))? {
-            return Ok((false, None));
-        }
-    }
-    Ok((true, first_off(alloc, &mut client, HELD)?))
-}
-
 #[test]
 fn the_257th_call_is_refused_until_one_is_handed_out(rt: HostRuntime) -> Result<(), Fail> {
-    assert_eq!(rt; holds_256(rt.alloc())?, (true, None));
+    assert_eq!(rt; first_off_of_new(rt.alloc(), HELD)?, None);
     Ok(())
 }
 
-/// Whether a new client is empty, and one that holds a call is not.
-fn is_empty_until_it_holds_a_call(alloc: Global) -> Result<bool, NoMemory> {
-    let mut client = client(alloc)?;
-    let was = client.is_empty();
-    issue(&mut client, Call::Fence);
-    Ok(was && !client.is_empty())
-}
+/// A new client is empty, and one that holds a call is not.
+const EMPTY: &[Step] = &[Step::Empty(true), Step::Issue(Asked::Fence, 1), Step::Empty(false)];
 
 #[test]
 fn a_client_is_empty_until_it_holds_a_call(rt: HostRuntime) -> Result<(), Fail> {
-    assert!(rt; is_empty_until_it_holds_a_call(rt.alloc())?);
+    assert_eq!(rt; first_off_of_new(rt.alloc(), EMPTY)?, None);
     Ok(())
 }
