@@ -4,6 +4,7 @@ ghost use Rattle.std.specs.Prelude.{◌≡◌, ◌<◌, ◌≤◌};
 
 use cl_types::config::{NodeConfig, OffloadConfig, OffloadList};
 use cl_types::frame::How;
+use cl_types::items::NoMemory;
 use cl_types::limits::FRAME_ROOM;
 use cl_types::numbers::{Addr, Space16, Vpn, try_pid};
 use cl_types::open_fault::OpenFault;
@@ -42,6 +43,30 @@ enum Told<'a> {
     Looked(&'a [u8]),
     /// The records are full, and the oldest is of this moment.
     Busy(u64),
+    /// It was handled with nothing counted, and executed, and this is the body of its reply.
+    Handled(&'a [u8]),
+}
+
+/// So many pages, buckets and kept replies of a node, and whether it has a store of two records.
+#[derive(Clone, Copy)]
+struct Sizes {
+    pages: u64,
+    buckets: u64,
+    retry: u64,
+    store: bool,
+}
+
+/// What is seen of a node after some requests.
+#[derive(Clone, Copy)]
+struct Seen {
+    /// The first request of which another thing was told, by its place from 0.
+    off: Option<usize>,
+    /// How many pages are taken, and how many replies are kept.
+    counts: (u32, u32),
+    /// The word at the start of page 1 of process 1, and of page 2.
+    peeked: [Result<[u8; 8], Refusal>; 2],
+    /// Whether the cache has the entry of page 1 of process 1.
+    cached: bool,
 }
 
 /// A node, and the buffer of its replies.
@@ -51,28 +76,17 @@ struct Tried {
     out: [u8; FRAME_ROOM],
 }
 
-/// A node of so many pages, buckets and kept replies, with a store of two records where one is asked for.
-fn opened(
-    alloc: Global,
-    pages: u64,
-    buckets: u64,
-    retry: u64,
-    store: bool,
-) -> Result<Tried, OpenFault> {
+fn config(alloc: Global, sizes: Sizes) -> Result<NodeConfig, NoMemory> {
     let mut offloads = OffloadList::create(alloc);
-    if store {
+    if sizes.store {
         offloads.push(OffloadConfig::Kv { records: 2 })?;
     }
-    let config = NodeConfig {
-        pages,
-        buckets,
+    Ok(NodeConfig {
+        pages: sizes.pages,
+        buckets: sizes.buckets,
         ring: 1,
-        retry,
+        retry: sizes.retry,
         offloads,
-    };
-    Ok(Tried {
-        node: Node::create(alloc, &config)?,
-        out: [0xee; FRAME_ROOM],
     })
 }
 
@@ -112,6 +126,18 @@ fn step<A: Ledger, B: Ledger>(
         .step(moment, frame, &mut tried.out, &mut reads, &mut takes)
 }
 
+/// The word at the start of page 1 of process 1, or of page 2.
+fn peeked(node: &Node) -> [Result<[u8; 8], Refusal>; 2] {
+    let Some(pid) = try_pid(1) else {
+        return [Err(Refusal::BadOp); 2];
+    };
+    let mut shown = [7; 8];
+    let first = node.peek(pid, Addr(0x1000), &mut shown);
+    let mut other = [7; 8];
+    let second = node.peek(pid, Addr(0x2000), &mut other);
+    [first.map(|_| shown), second.map(|_| other)]
+}
+
 impl Tried {
     /// What the node says of a request.
     fn ask(&mut self, now: u64, id: u64, asked: (u8, &[u8])) -> Outcome {
@@ -134,15 +160,38 @@ impl Tried {
         }
     }
 
+    /// What the node says of a request that it handles with nothing counted. `None` tells that the moment is before its latest.
+    fn handle(&mut self, now: u64, id: u64, asked: (u8, &[u8])) -> Option<Outcome> {
+        let mut frame = [0; 64];
+        let (kind, body) = asked;
+        let len = spell(id, kind, body, &mut frame);
+        if now < self.node.last() {
+            return None;
+        }
+        Some(self.node.handle(now, &frame[..len], &mut self.out))
+    }
+
+    /// Whether a request that is handled with nothing counted is executed, with this body of its reply.
+    fn handles(&mut self, now: u64, id: u64, asked: (u8, &[u8]), body: &[u8]) -> bool {
+        match self.handle(now, id, asked) {
+            Some(outcome) => self.replied(outcome, How::Executed, body),
+            None => false,
+        }
+    }
+
     /// Whether this is told of a request.
     fn tells(&mut self, row: &Row) -> bool {
         let (now, id, asked, told) = *row;
+        if let Told::Handled(body) = told {
+            return self.handles(now, id, asked, body);
+        }
         let outcome = self.ask(now, id, asked);
         match told {
             Told::Executed(body) => self.replied(outcome, How::Executed, body),
             Told::Repeated(body) => self.replied(outcome, How::Repeated, body),
             Told::Looked(body) => self.replied(outcome, How::Looked, body),
             Told::Busy(oldest) => outcome == Outcome::Busy { oldest, now },
+            Told::Handled(_) => false,
         }
     }
 
@@ -156,11 +205,40 @@ impl Tried {
         None
     }
 
-    /// How many pages are taken, and how many replies are kept.
-    fn counts(&self) -> (u32, u32) {
-        (self.node.used(), self.node.retained())
+    /// What is seen of the node after these requests.
+    fn seen_after(&mut self, rows: &[Row]) -> Seen {
+        let off = self.first_off(rows);
+        Seen {
+            off,
+            counts: (self.node.used(), self.node.retained()),
+            peeked: peeked(&self.node),
+            cached: self.node.store().cache.contains(Space16(1), Vpn(1)),
+        }
     }
 }
+
+/// What is seen of a new node after these requests. No other function owns a node, since each that drops one takes the
+/// prover long.
+fn seen_of_new(alloc: Global, config: &NodeConfig, rows: &[Row]) -> Result<Seen, OpenFault> {
+    let mut tried = Tried {
+        node: Node::create(alloc, config)?,
+        out: [0xee; FRAME_ROOM],
+    };
+    Ok(tried.seen_after(rows))
+}
+
+/// What is seen of a new node of these sizes after these requests.
+fn see(alloc: Global, sizes: Sizes, rows: &[Row]) -> Result<Seen, OpenFault> {
+    let config = config(alloc, sizes)?;
+    seen_of_new(alloc, &config, rows)
+}
+
+const ONE_KEPT: Sizes = Sizes {
+    pages: 16,
+    buckets: 8,
+    retry: 1,
+    store: false,
+};
 
 /// With one record. A page that is freed by nobody is given once more where its reply is no longer kept.
 const ONE_RECORD: &[Row] = &[
@@ -184,11 +262,17 @@ const ONE_RECORD: &[Row] = &[
 
 #[test]
 fn a_full_buffer_is_busy_while_its_oldest_record_is_young(rt: HostRuntime) -> Result<(), Fail> {
-    let mut tried = opened(rt.alloc(), 16, 8, 1, false).expect(&rt, "opens");
-    let off = tried.first_off(ONE_RECORD);
-    assert_eq!(rt; (off, tried.counts()), (None, (1, 1)));
+    let seen = see(rt.alloc(), ONE_KEPT, ONE_RECORD).expect(&rt, "opens");
+    assert_eq!(rt; (seen.off, seen.counts), (None, (1, 1)));
     Ok(())
 }
+
+const SMALL: Sizes = Sizes {
+    pages: 1,
+    buckets: 8,
+    retry: 16,
+    store: false,
+};
 
 /// With one physical page. A permission is asked before a page is taken, and a freed page is taken again with zeros.
 const ONE_PAGE: &[Row] = &[
@@ -215,11 +299,17 @@ const ONE_PAGE: &[Row] = &[
 
 #[test]
 fn a_permission_is_asked_before_a_page_is_taken(rt: HostRuntime) -> Result<(), Fail> {
-    let mut tried = opened(rt.alloc(), 1, 8, 16, false).expect(&rt, "opens");
-    let off = tried.first_off(ONE_PAGE);
-    assert_eq!(rt; (off, tried.counts()), (None, (1, 8)));
+    let seen = see(rt.alloc(), SMALL, ONE_PAGE).expect(&rt, "opens");
+    assert_eq!(rt; (seen.off, seen.counts), (None, (1, 8)));
     Ok(())
 }
+
+const NARROW: Sizes = Sizes {
+    pages: 16,
+    buckets: 2,
+    retry: 16,
+    store: false,
+};
 
 /// With two buckets, each of four pages.
 const TWO_BUCKETS: &[Row] = &[
@@ -233,10 +323,17 @@ const TWO_BUCKETS: &[Row] = &[
 
 #[test]
 fn eight_pages_fill_two_buckets(rt: HostRuntime) -> Result<(), Fail> {
-    let mut tried = opened(rt.alloc(), 16, 2, 16, false).expect(&rt, "opens");
-    assert_eq!(rt; tried.first_off(TWO_BUCKETS), None);
+    let seen = see(rt.alloc(), NARROW, TWO_BUCKETS).expect(&rt, "opens");
+    assert_eq!(rt; seen.off, None);
     Ok(())
 }
+
+const STORING: Sizes = Sizes {
+    pages: 16,
+    buckets: 8,
+    retry: 16,
+    store: true,
+};
 
 /// With a store of two records.
 const STORE: &[Row] = &[
@@ -255,10 +352,17 @@ const STORE: &[Row] = &[
 
 #[test]
 fn a_store_of_two_records_takes_two_keys(rt: HostRuntime) -> Result<(), Fail> {
-    let mut tried = opened(rt.alloc(), 16, 8, 16, true).expect(&rt, "opens");
-    assert_eq!(rt; tried.first_off(STORE), None);
+    let seen = see(rt.alloc(), STORING, STORE).expect(&rt, "opens");
+    assert_eq!(rt; seen.off, None);
     Ok(())
 }
+
+const PLAIN: Sizes = Sizes {
+    pages: 16,
+    buckets: 8,
+    retry: 8,
+    store: false,
+};
 
 /// A word that is written and added to.
 const WORD: &[Row] = &[
@@ -272,60 +376,45 @@ const WORD: &[Row] = &[
     ),
 ];
 
-/// The word at the start of page 1 of process 1, or of page 2.
-fn peeked(node: &Node) -> [Result<[u8; 8], Refusal>; 2] {
-    let Some(pid) = try_pid(1) else {
-        return [Err(Refusal::BadOp); 2];
-    };
-    let mut shown = [7; 8];
-    let first = node.peek(pid, Addr(0x1000), &mut shown);
-    let mut other = [7; 8];
-    let second = node.peek(pid, Addr(0x2000), &mut other);
-    [first.map(|_| shown), second.map(|_| other)]
-}
-
 #[test]
 fn a_word_changes_where_it_stands_and_a_peek_shows_it(rt: HostRuntime) -> Result<(), Fail> {
-    let mut tried = opened(rt.alloc(), 16, 8, 8, false).expect(&rt, "opens");
-    let off = tried.first_off(WORD);
+    let seen = see(rt.alloc(), PLAIN, WORD).expect(&rt, "opens");
     let want = [Ok([8, 0, 0, 0, 0, 0, 0, 0]), Err(Refusal::NoMapping)];
-    assert_eq!(rt; (off, peeked(&tried.node)), (None, want));
+    let words = seen.peeked;
+    assert_eq!(rt; (seen.off, words), (None, want));
     Ok(())
 }
 
-/// Whether the cache of a new node has the entry of page 1 of process 1 once the page is mapped, and once it was read.
-fn caches(tried: &mut Tried) -> [bool; 2] {
-    tried.ask(0, 1, (ALLOC, &[0, 1, 3]));
-    let mapped = tried.node.store().cache.contains(Space16(1), Vpn(1));
-    tried.ask(0, 2, (READ, &[0, 0, 16, 0, 0, 4]));
-    [
-        mapped,
-        tried.node.store().cache.contains(Space16(1), Vpn(1)),
-    ]
-}
+/// A page is mapped.
+const MAPPED: &[Row] = &[(0, 1, (ALLOC, &[0, 1, 3]), Told::Executed(&[0, 0, 0, 16, 0]))];
+
+/// A page is mapped and read.
+const MAPPED_AND_READ: &[Row] = &[
+    (0, 1, (ALLOC, &[0, 1, 3]), Told::Executed(&[0, 0, 0, 16, 0])),
+    (
+        0,
+        2,
+        (READ, &[0, 0, 16, 0, 0, 4]),
+        Told::Looked(&[0, 0, 0, 0, 0]),
+    ),
+];
 
 // A step reads no bucket where the cache has the page's entry: that is a clause of the step.
 #[test]
 fn a_page_that_was_read_has_its_entry_in_the_cache(rt: HostRuntime) -> Result<(), Fail> {
-    let mut tried = opened(rt.alloc(), 16, 8, 8, false).expect(&rt, "opens");
-    assert_eq!(rt; caches(&mut tried), [false, true]);
+    let mapped = see(rt.alloc(), PLAIN, MAPPED).expect(&rt, "opens");
+    let read = see(rt.alloc(), PLAIN, MAPPED_AND_READ).expect(&rt, "opens");
+    let want = [(None, false), (None, true)];
+    assert_eq!(rt; [(mapped.off, mapped.cached), (read.off, read.cached)], want);
     Ok(())
 }
 
-/// Whether a node that handles a frame, and counts nothing, answers it as a step does.
-fn handles_as_it_steps(tried: &mut Tried) -> bool {
-    let mut frame = [0; 64];
-    let len = spell(1, ALLOC, &[0, 1, 3], &mut frame);
-    if tried.node.last() > 0 {
-        return false;
-    }
-    let outcome = tried.node.handle(0, &frame[..len], &mut tried.out);
-    tried.replied(outcome, How::Executed, &[0, 0, 0, 16, 0])
-}
+/// A node that handles a frame, and counts nothing, answers it as a step does.
+const HANDLED: &[Row] = &[(0, 1, (ALLOC, &[0, 1, 3]), Told::Handled(&[0, 0, 0, 16, 0]))];
 
 #[test]
 fn a_frame_is_handled_with_nothing_counted(rt: HostRuntime) -> Result<(), Fail> {
-    let mut tried = opened(rt.alloc(), 16, 8, 8, false).expect(&rt, "opens");
-    assert!(rt; handles_as_it_steps(&mut tried));
+    let seen = see(rt.alloc(), PLAIN, HANDLED).expect(&rt, "opens");
+    assert_eq!(rt; seen.off, None);
     Ok(())
 }
