@@ -39,9 +39,11 @@ fn read(alloc: Global, addr: u32) -> Result<Call, NoMemory>
 /// Two Reads of a page, an atomic on it, a Fence, and an atomic on another page: the first two that are ready, and the
 /// first that is ready as one after the other ends.
 fn goes(alloc: Global) -> Result<([bool; 3], [Option<CallNo>; 5]), NoMemory> {
+    let first = read(alloc, 0x1000)?;
+    let second = read(alloc, 0x1fff)?;
     let mut order = Order::create(alloc)?;
-    order.add(CallNo(1), &read(alloc, 0x1000)?);
-    order.add(CallNo(2), &read(alloc, 0x1fff)?);
+    order.add(CallNo(1), &first);
+    order.add(CallNo(2), &second);
     order.add(CallNo(3), &unlock(0x1000));
     order.add(CallNo(4), &Call::Fence);
     order.add(CallNo(5), &unlock(0x2000));
