@@ -410,7 +410,11 @@ fn the_257th_call_is_refused_until_one_is_handed_out(rt: HostRuntime) -> Result<
 }
 
 /// A new client is empty, and one that holds a call is not.
-const EMPTY: &[Step] = &[Step::Empty(true), Step::Issue(Asked::Fence, 1), Step::Empty(false)];
+const EMPTY: &[Step] = &[
+    Step::Empty(true),
+    Step::Issue(Asked::Fence, 1),
+    Step::Empty(false),
+];
 
 #[test]
 fn a_client_is_empty_until_it_holds_a_call(rt: HostRuntime) -> Result<(), Fail> {

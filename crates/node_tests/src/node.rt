@@ -405,7 +405,10 @@ fn a_page_that_was_read_has_its_entry_in_the_cache(rt: HostRuntime) -> Result<()
     let mapped = see(rt.alloc(), PLAIN, MAPPED).expect(&rt, "opens");
     let read = see(rt.alloc(), PLAIN, MAPPED_AND_READ).expect(&rt, "opens");
     let want = [(None, false), (None, true)];
-    assert_eq!(rt; [(mapped.off, mapped.cached), (read.off, read.cached)], want);
+    assert_eq!(rt;
+        [(mapped.off, mapped.cached), (read.off, read.cached)],
+        want
+    );
     Ok(())
 }
 
