@@ -3,7 +3,7 @@
 use cl_types::call::{AtomicOp, Perm};
 use cl_types::config::{NodeConfig, OffloadConfig, OffloadList};
 use cl_types::items::{Bytes, NoMemory};
-use cl_types::numbers::{Addr, try_pid};
+use cl_types::numbers::{Addr, Pid, try_pid};
 use cl_types::open_fault::OpenFault;
 use cl_types::reply::{Refusal, Reply};
 use cl_types::request::Request;
@@ -11,7 +11,6 @@ use flat_model::check::check_step;
 use flat_model::flat::Flat;
 use flat_model::opening::create;
 use std::alloc::Global;
-use std::test::Fail;
 
 /// A request of process 1, with its numbers in the order of its text.
 #[derive(Clone, Copy)]
@@ -78,15 +77,25 @@ fn reply_of(alloc: Global, told: Told) -> Result<Reply, NoMemory> {
     })
 }
 
-/// The machine of a node of so many pages and buckets, with a store of two records where one is asked for.
-fn opened(alloc: Global, pages: u64, buckets: u64, store: bool) -> Result<Flat, OpenFault> {
+/// How many pages and buckets a node has, whether it has a store of two records, and rows that are judged one after another
+/// by its machine.
+#[derive(Clone, Copy)]
+struct Worked<'a> {
+    pages: u64,
+    buckets: u64,
+    store: bool,
+    rows: &'a [Row<'a>],
+}
+
+/// The machine of the node.
+fn opened(alloc: Global, worked: &Worked) -> Result<Flat, OpenFault> {
     let mut offloads = OffloadList::create(alloc);
-    if store {
+    if worked.store {
         offloads.push(OffloadConfig::Kv { records: 2 })?;
     }
     let config = NodeConfig {
-        pages,
-        buckets,
+        pages: worked.pages,
+        buckets: worked.buckets,
         ring: 1,
         retry: 8,
         offloads,
@@ -94,23 +103,39 @@ fn opened(alloc: Global, pages: u64, buckets: u64, store: bool) -> Result<Flat, 
     create(alloc, &config)
 }
 
+/// Whether the row is judged as it says.
+fn is_judged(alloc: Global, flat: &mut Flat, pid: Pid, row: &Row) -> Result<bool, NoMemory> {
+    let (asked, told, want) = *row;
+    let request = request_of(alloc, asked)?;
+    let reply = reply_of(alloc, told)?;
+    Ok(check_step(alloc, flat, pid, &request, &reply) == Ok(want))
+}
+
 /// The first row that is judged otherwise, by its place from 0.
-fn first_wrong(alloc: Global, flat: Flat, rows: &[Row]) -> Result<Option<usize>, NoMemory> {
-    let mut flat = flat;
-    let Some(pid) = try_pid(1) else {
-        return Ok(Some(0));
-    };
-    for (place, (asked, told, want)) in rows.iter().enumerate() {
-        let request = request_of(alloc, *asked)?;
-        let reply = reply_of(alloc, *told)?;
-        if check_step(alloc, &mut flat, pid, &request, &reply)? != *want {
-            return Ok(Some(place));
+fn first_off(
+    alloc: Global,
+    flat: &mut Flat,
+    pid: Pid,
+    rows: &[Row],
+) -> Result<Option<usize>, NoMemory> {
+    for (at, row) in rows.iter().enumerate() {
+        if !is_judged(alloc, flat, pid, row)? {
+            return Ok(Some(at));
         }
     }
     Ok(None)
 }
 
-/// The first worked history. With the last digit of what it read changed it is no run, and a Read of no bytes is no step.
+/// The same of a new machine. No other function owns one, since each that drops one takes the prover long.
+fn first_off_of_new(alloc: Global, pid: Pid, worked: &Worked) -> Result<Option<usize>, NoMemory> {
+    let Ok(mut flat) = opened(alloc, worked) else {
+        return Err(NoMemory);
+    };
+    first_off(alloc, &mut flat, pid, worked.rows)
+}
+
+/// The first worked history is a run. With the last digit of what it read changed it is none, and a Read of no bytes is no
+/// step.
 const FIRST: &[Row] = &[
     (Asked::Alloc(1, Perm::ReadWrite), Told::At(0x1000), true),
     (Asked::Write(0x1000, b"abc"), Told::Nothing, true),
@@ -119,7 +144,8 @@ const FIRST: &[Row] = &[
     (Asked::Read(0x1000, 0), Told::Got(b""), false),
 ];
 
-/// The least start is page 1. Two pages from page 5 on fit too, and then none from 4, 5 or 6 on.
+/// A range may start wherever it fits. The least start is page 1. Two pages from page 5 on fit too, and then none from 4, 5
+/// or 6 on.
 const STARTS: &[Row] = &[
     (Asked::Alloc(2, Perm::ReadOnly), Told::At(0x5000), true),
     (Asked::Alloc(2, Perm::ReadOnly), Told::At(0x4000), false),
@@ -131,7 +157,8 @@ const STARTS: &[Row] = &[
     (Asked::Alloc(2, Perm::ReadOnly), Told::At(0x1000), true),
 ];
 
-/// Two buckets have four pages each. Of the pages 1 to 8 of process 1 the homes are 0 1 0 1 1 0 1 0.
+/// NoRange is answered only where no start fits. Two buckets have four pages each. Of the pages 1 to 8 of process 1 the
+/// bucket indexes are 0 1 0 1 1 0 1 0.
 const BUCKETS: &[Row] = &[
     (
         Asked::Alloc(8, Perm::ReadWrite),
@@ -147,7 +174,7 @@ const BUCKETS: &[Row] = &[
     ),
 ];
 
-/// Of one physical page.
+/// Of one physical page. The permission is checked before pages run out.
 const LAST_PAGE: &[Row] = &[
     (Asked::Alloc(2, Perm::ReadWrite), Told::At(0x1000), true),
     (Asked::Alloc(1, Perm::ReadOnly), Told::At(0x3000), true),
@@ -208,7 +235,7 @@ const WORDS: &[Row] = &[
     ),
 ];
 
-/// A store of two records.
+/// A store of two records: two keys are put, read and deleted.
 const STORE: &[Row] = &[
     (Asked::Offload(0, 1, b"\x01av"), Told::Got(b""), true),
     (Asked::Offload(0, 1, b"\x01bw"), Told::Got(b""), true),
@@ -240,44 +267,59 @@ const STORE: &[Row] = &[
     ),
 ];
 
-#[test]
-fn the_first_worked_history_is_a_run(rt: HostRuntime) -> Result<(), Fail> {
-    let flat = opened(rt.alloc(), 16, 8, false)?;
-    assert_eq!(rt; first_wrong(rt.alloc(), flat, FIRST)?, None);
-    Ok(())
+const WORKED: &[Worked] = &[
+    Worked {
+        pages: 16,
+        buckets: 8,
+        store: false,
+        rows: FIRST,
+    },
+    Worked {
+        pages: 16,
+        buckets: 8,
+        store: false,
+        rows: STARTS,
+    },
+    Worked {
+        pages: 16,
+        buckets: 2,
+        store: false,
+        rows: BUCKETS,
+    },
+    Worked {
+        pages: 1,
+        buckets: 8,
+        store: false,
+        rows: LAST_PAGE,
+    },
+    Worked {
+        pages: 16,
+        buckets: 8,
+        store: false,
+        rows: WORDS,
+    },
+    Worked {
+        pages: 16,
+        buckets: 8,
+        store: true,
+        rows: STORE,
+    },
+];
+
+/// The first machine that judges a row otherwise, and the row, by their places from 0.
+fn first_off_of_all(alloc: Global) -> Result<Option<(usize, usize)>, NoMemory> {
+    let Some(pid) = try_pid(1) else {
+        return Err(NoMemory);
+    };
+    for (at, worked) in WORKED.iter().enumerate() {
+        if let Some(row) = first_off_of_new(alloc, pid, worked)? {
+            return Ok(Some((at, row)));
+        }
+    }
+    Ok(None)
 }
 
 #[test]
-fn a_range_may_start_wherever_it_fits(rt: HostRuntime) -> Result<(), Fail> {
-    let flat = opened(rt.alloc(), 16, 8, false)?;
-    assert_eq!(rt; first_wrong(rt.alloc(), flat, STARTS)?, None);
-    Ok(())
-}
-
-#[test]
-fn no_range_is_told_only_where_no_start_fits(rt: HostRuntime) -> Result<(), Fail> {
-    let flat = opened(rt.alloc(), 16, 2, false)?;
-    assert_eq!(rt; first_wrong(rt.alloc(), flat, BUCKETS)?, None);
-    Ok(())
-}
-
-#[test]
-fn permission_is_judged_before_pages_run_out(rt: HostRuntime) -> Result<(), Fail> {
-    let flat = opened(rt.alloc(), 1, 8, false)?;
-    assert_eq!(rt; first_wrong(rt.alloc(), flat, LAST_PAGE)?, None);
-    Ok(())
-}
-
-#[test]
-fn a_counter_is_locked_and_counts(rt: HostRuntime) -> Result<(), Fail> {
-    let flat = opened(rt.alloc(), 16, 8, false)?;
-    assert_eq!(rt; first_wrong(rt.alloc(), flat, WORDS)?, None);
-    Ok(())
-}
-
-#[test]
-fn a_store_of_two_keys_is_put_read_and_emptied(rt: HostRuntime) -> Result<(), Fail> {
-    let flat = opened(rt.alloc(), 16, 8, true)?;
-    assert_eq!(rt; first_wrong(rt.alloc(), flat, STORE)?, None);
-    Ok(())
+fn worked_histories_are_judged(rt: HostRuntime) {
+    assert!(rt; first_off_of_all(rt.alloc()) == Ok(None));
 }

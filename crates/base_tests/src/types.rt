@@ -10,7 +10,6 @@ use cl_types::numbers::{Space16, Vpn};
 use cl_types::page::home;
 use cl_types::space::{MemorySpace, Space};
 use std::alloc::Global;
-use std::test::Fail;
 
 /// The homes of the first ten pages of a process.
 fn first_homes(pid: u16, buckets: u32) -> [u32; 10]
@@ -23,22 +22,23 @@ fn first_homes(pid: u16, buckets: u32) -> [u32; 10]
     homes
 }
 
+/// Whether pages of the processes 1 and 2 have the homes of the worked table.
+fn homes_are_worked() -> bool {
+    first_homes(1, 2) == [0, 1, 0, 1, 1, 0, 1, 0, 0, 1]
+        && first_homes(1, 8) == [0, 5, 2, 7, 4, 1, 6, 3, 0, 5]
+        && first_homes(2, 2).starts_with(&[1, 0, 1, 0, 0, 1])
+}
+
 #[test]
 fn pages_have_the_homes_of_the_worked_table(rt: HostRuntime) {
-    let homes = [first_homes(1, 2), first_homes(1, 8)];
-    let want = [
-        [0, 1, 0, 1, 1, 0, 1, 0, 0, 1],
-        [0, 5, 2, 7, 4, 1, 6, 3, 0, 5],
-    ];
-    assert_eq!(rt; homes, want);
-    assert_eq!(rt; &first_homes(2, 2)[..6], [1, 0, 1, 0, 0, 1].as_slice());
+    assert!(rt; homes_are_worked());
 }
 
 /// The numbers of pages, buckets, zeroed pages and kept replies of a node, how many stores of one record it has, and
 /// the first bad number that is told of it.
 type Judged = ([u64; 4], u8, Option<(Field, u64)>);
 
-const JUDGED: [Judged; 9] = [
+const JUDGED: &[Judged] = &[
     ([1, 2, 1, 1], 0, None),
     ([65_536, 65_536, 1024, 65_536], 16, None),
     ([0, 3, 0, 0], 17, Some((Field::Pages, 0))),
@@ -50,54 +50,75 @@ const JUDGED: [Judged; 9] = [
     ([16, 8, 4, 4], 17, Some((Field::Offloads, 17))),
 ];
 
-/// The first row of which another number is told.
-fn first_misjudged(alloc: Global) -> Result<Option<Judged>, NoMemory> {
-    for judged in JUDGED {
-        let ([pages, buckets, ring, retry], stores, want) = judged;
-        let mut offloads = OffloadList::create(alloc);
-        for _ in 0..stores {
-            offloads.push(OffloadConfig::Kv { records: 1 })?;
-        }
-        let node = NodeConfig {
-            pages,
-            buckets,
-            ring,
-            retry,
-            offloads,
-        };
-        if bad_number(&node) != want {
-            return Ok(Some(judged));
+/// The configuration with these numbers, and so many stores of one record.
+fn config(alloc: Global, numbers: [u64; 4], stores: u8) -> Result<NodeConfig, NoMemory> {
+    let [pages, buckets, ring, retry] = numbers;
+    let mut offloads = OffloadList::create(alloc);
+    for _ in 0..stores {
+        offloads.push(OffloadConfig::Kv { records: 1 })?;
+    }
+    Ok(NodeConfig {
+        pages,
+        buckets,
+        ring,
+        retry,
+        offloads,
+    })
+}
+
+/// The first bad number of such a configuration.
+fn bad_number_of(
+    alloc: Global,
+    numbers: [u64; 4],
+    stores: u8,
+) -> Result<Option<(Field, u64)>, NoMemory> {
+    let node = config(alloc, numbers, stores)?;
+    Ok(bad_number(&node))
+}
+
+/// The first row of which another number is reported, by its place from 0.
+fn first_off(alloc: Global, rows: &[Judged]) -> Result<Option<usize>, NoMemory> {
+    for (at, (numbers, stores, want)) in rows.iter().enumerate() {
+        if bad_number_of(alloc, *numbers, *stores)? != *want {
+            return Ok(Some(at));
         }
     }
     Ok(None)
 }
 
 #[test]
-fn the_first_bad_number_is_told(rt: HostRuntime) -> Result<(), Fail> {
-    assert_eq!(rt; first_misjudged(rt.alloc())?, None);
-    Ok(())
+fn the_first_bad_number_is_told(rt: HostRuntime) {
+    assert!(rt; first_off(rt.alloc(), JUDGED) == Ok(None));
 }
 
-/// "abc", by each call that makes a list of bytes grow, and turned round.
-fn cba(alloc: Global) -> Result<Bytes, NoMemory> {
-    let mut bytes = Bytes::create(alloc);
+/// Appends "abc", by each call that makes a list of bytes grow, and turns the list round.
+fn spell(bytes: &mut Bytes) -> Result<(), NoMemory> {
     bytes.push(b'a')?;
     bytes.append(b"bc")?;
     bytes.as_mut_slice().reverse();
-    Ok(bytes)
-}
-
-#[test]
-fn a_list_keeps_its_items_in_order(rt: HostRuntime) -> Result<(), Fail> {
-    assert_eq!(rt; cba(rt.alloc())?.as_slice(), b"cba".as_slice());
     Ok(())
 }
 
+/// Whether that leaves "cba".
+fn spells_cba(alloc: Global) -> bool {
+    let mut bytes = Bytes::create(alloc);
+    spell(&mut bytes).is_ok() && bytes.as_slice() == b"cba".as_slice()
+}
+
 #[test]
-fn a_space_in_memory_is_made_of_zeros(rt: HostRuntime) -> Result<(), Fail> {
-    let mut space = MemorySpace::create(rt.alloc(), 2)?;
+fn a_list_keeps_its_items_in_order(rt: HostRuntime) {
+    assert!(rt; spells_cba(rt.alloc()));
+}
+
+/// The pages of a space of two, and four bytes within its second one.
+fn space_shows(alloc: Global) -> Result<(u32, [u8; 4]), NoMemory> {
+    let mut space = MemorySpace::create(alloc, 2)?;
     let mut out = [7; 4];
     space.read_at(8188, &mut out);
-    assert_eq!(rt; (space.pages(), out), (2, [0; 4]));
-    Ok(())
+    Ok((space.pages(), out))
+}
+
+#[test]
+fn a_space_in_memory_is_made_of_zeros(rt: HostRuntime) {
+    assert!(rt; space_shows(rt.alloc()) == Ok((2, [0; 4])));
 }

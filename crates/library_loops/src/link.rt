@@ -26,8 +26,7 @@ pub fn send(
     buffer: &[u8],
     len: usize,
 ) -> Result<(), AllocError> {
-    let mut datagram = Vec::new(alloc);
-    datagram.extend_from_slice(&buffer[..len.min(buffer.len())])?;
+    let datagram = Vec::from_slice(alloc, &buffer[..len.min(buffer.len())])?;
     list.push(datagram)?;
     Ok(())
 }

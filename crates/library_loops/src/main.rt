@@ -59,11 +59,10 @@ fn ask_all(client: &mut Client) {
 }
 
 // Four turns. A turn takes 100 ticks, after which a part without a reply is sent again.
-fn play(rt: &HostRuntime, node: &mut Node, client: &mut Client) -> io::Result<()> {
-    let mut link = Link::create(rt.alloc());
+fn play(rt: &HostRuntime, node: &mut Node, client: &mut Client, link: &mut Link) -> io::Result<()> {
     for turn in 0..4 {
-        drive(rt, client, 100 * turn, &mut link)?;
-        serve(rt.alloc(), node, 100 * turn, &mut link)?;
+        drive(rt, client, 100 * turn, link)?;
+        serve(rt.alloc(), node, 100 * turn, link)?;
         if turn == 0 {
             link.to_client.clear();
         }
@@ -71,10 +70,19 @@ fn play(rt: &HostRuntime, node: &mut Node, client: &mut Client) -> io::Result<()
     Ok(())
 }
 
-fn main(rt: HostRuntime) -> io::Result<()> {
-    let (Ok(mut node), Ok(mut client)) = (node(rt.alloc()), client(rt.alloc())) else {
+// Makes the client and the link to the node, and asks.
+fn run(rt: &HostRuntime, node: &mut Node) -> io::Result<()> {
+    let Ok(mut client) = client(rt.alloc()) else {
         return Ok(());
     };
+    let mut link = Link::create(rt.alloc());
     ask_all(&mut client);
-    play(&rt, &mut node, &mut client)
+    play(rt, node, &mut client, &mut link)
+}
+
+fn main(rt: HostRuntime) -> io::Result<()> {
+    let Ok(mut node) = node(rt.alloc()) else {
+        return Ok(());
+    };
+    run(&rt, &mut node)
 }

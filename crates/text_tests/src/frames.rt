@@ -70,55 +70,62 @@ fn reply_in(bytes: &[u8]) -> Option<(Kind, ReplyRef<'_>)> {
     }
 }
 
-#[test]
-fn requests_are_read_as_the_vectors_say(rt: HostRuntime) {
-    let are_read = [
-        matches!(
-            request_in(ALLOC),
-            Some(RequestRef::Alloc {
-                pages: 1,
-                perm: Perm::ReadWrite
-            })
-        ),
-        matches!(
-            request_in(WRITE),
-            Some(RequestRef::Write {
-                addr: Addr(0x1000),
-                bytes: b"abc"
-            })
-        ),
-        matches!(
-            request_in(READ),
-            Some(RequestRef::Read {
-                addr: Addr(0x1ffc),
-                len: 4
-            })
-        ),
-        matches!(
-            request_in(ADD),
-            Some(RequestRef::Atomic {
-                addr: Addr(0x1000),
-                op: AtomicOp::Add { n: 3 }
-            })
-        ),
-    ];
-    assert_eq!(rt; are_read, [true; 4]);
+fn alloc_is_read() -> bool {
+    matches!(
+        request_in(ALLOC),
+        Some(RequestRef::Alloc {
+            pages: 1,
+            perm: Perm::ReadWrite
+        })
+    )
 }
 
-#[test]
-fn replies_are_read_as_the_vectors_say(rt: HostRuntime) {
-    let are_read = [
-        matches!(
-            reply_in(ALLOCATED),
-            Some((Kind::Alloc, ReplyRef::At(Addr(0x1000))))
-        ),
-        matches!(reply_in(ADDED), Some((Kind::Atomic, ReplyRef::Word(5)))),
-        matches!(
-            reply_in(NO_MAPPING),
-            Some((Kind::Write, ReplyRef::Refused(Refusal::NoMapping)))
-        ),
-    ];
-    assert_eq!(rt; are_read, [true; 3]);
+fn write_is_read() -> bool {
+    matches!(
+        request_in(WRITE),
+        Some(RequestRef::Write {
+            addr: Addr(0x1000),
+            bytes: b"abc"
+        })
+    )
+}
+
+fn read_is_read() -> bool {
+    matches!(
+        request_in(READ),
+        Some(RequestRef::Read {
+            addr: Addr(0x1ffc),
+            len: 4
+        })
+    )
+}
+
+fn add_is_read() -> bool {
+    matches!(
+        request_in(ADD),
+        Some(RequestRef::Atomic {
+            addr: Addr(0x1000),
+            op: AtomicOp::Add { n: 3 }
+        })
+    )
+}
+
+fn start_is_read() -> bool {
+    matches!(
+        reply_in(ALLOCATED),
+        Some((Kind::Alloc, ReplyRef::At(Addr(0x1000))))
+    )
+}
+
+fn word_is_read() -> bool {
+    matches!(reply_in(ADDED), Some((Kind::Atomic, ReplyRef::Word(5))))
+}
+
+fn refusal_is_read() -> bool {
+    matches!(
+        reply_in(NO_MAPPING),
+        Some((Kind::Write, ReplyRef::Refused(Refusal::NoMapping)))
+    )
 }
 
 /// Whether the buffer, which was full of 0xee, has these bytes in front and nothing else that is new right behind them.
@@ -126,44 +133,44 @@ fn has_in_front(out: &[u8; 1200], len: usize, want: &[u8]) -> bool {
     len == want.len() && out.starts_with(want) && out.get(len) == Some(&0xee)
 }
 
-/// The first request that is read with other numbers, or written otherwise, by its place from 0.
+/// Whether the request is decoded with these numbers, and encoded again as the same bytes.
+fn request_comes_back(bytes: &[u8], want: (u16, u16, u64, u64)) -> bool {
+    let Ok(view) = read_request(bytes) else {
+        return false;
+    };
+    let mut out = [0xee; 1200];
+    let len = write_request(&view.head, &view.body, &mut out);
+    numbers(&view.head) == want && has_in_front(&out, len, bytes)
+}
+
+/// The same of a reply.
+fn reply_comes_back(bytes: &[u8], want: (u16, u16, u64, u64)) -> bool {
+    let Ok(view) = read_reply(bytes) else {
+        return false;
+    };
+    let mut out = [0xee; 1200];
+    let len = write_reply(&view.head, view.kind, &view.body, &mut out);
+    numbers(&view.head) == want && has_in_front(&out, len, bytes)
+}
+
+/// The first request that comes back otherwise, by its place from 0.
 fn first_request_off() -> Option<usize> {
     for (at, (bytes, want)) in REQUESTS.iter().enumerate() {
-        let Ok(view) = read_request(bytes) else {
-            return Some(at);
-        };
-        let mut out = [0xee; 1200];
-        let len = write_request(&view.head, &view.body, &mut out);
-        if numbers(&view.head) != *want || !has_in_front(&out, len, bytes) {
+        if !request_comes_back(bytes, *want) {
             return Some(at);
         }
     }
     None
 }
 
-#[test]
-fn requests_are_written_as_the_vectors(rt: HostRuntime) {
-    assert_eq!(rt; first_request_off(), None);
-}
-
-/// The first reply that is read with other numbers, or written otherwise, by its place from 0.
+/// The first reply that comes back otherwise, by its place from 0.
 fn first_reply_off() -> Option<usize> {
     for (at, (bytes, want)) in REPLIES.iter().enumerate() {
-        let Ok(view) = read_reply(bytes) else {
-            return Some(at);
-        };
-        let mut out = [0xee; 1200];
-        let len = write_reply(&view.head, view.kind, &view.body, &mut out);
-        if numbers(&view.head) != *want || !has_in_front(&out, len, bytes) {
+        if !reply_comes_back(bytes, *want) {
             return Some(at);
         }
     }
     None
-}
-
-#[test]
-fn replies_are_written_as_the_vectors(rt: HostRuntime) {
-    assert_eq!(rt; first_reply_off(), None);
 }
 
 /// The reply to `READ` with "abc" and a 0.
@@ -178,11 +185,6 @@ fn is_written_around() -> bool {
     out[27..31].copy_from_slice(b"abc\0");
     let len = write_got(&view.head, Kind::Read, 4, &mut out);
     has_in_front(&out, len, GOT)
-}
-
-#[test]
-fn bytes_that_stand_in_a_buffer_are_written_as_a_reply(rt: HostRuntime) {
-    assert!(rt; is_written_around());
 }
 
 /// Bytes that spell no request, by their heads, and the first fault of each.
@@ -348,17 +350,31 @@ fn first_reply_fault_off(rows: &[(&[u8], BadFrame)]) -> Option<usize> {
     None
 }
 
-#[test]
-fn the_first_fault_of_a_head_is_told(rt: HostRuntime) {
-    assert_eq!(rt; first_request_fault_off(&BAD_HEADS), None);
+/// Whether each vector is decoded as it says.
+fn are_decoded() -> bool {
+    [
+        alloc_is_read(),
+        write_is_read(),
+        read_is_read(),
+        add_is_read(),
+        start_is_read(),
+        word_is_read(),
+        refusal_is_read(),
+    ] == [true; 7]
 }
 
 #[test]
-fn the_first_fault_of_a_request_is_told(rt: HostRuntime) {
-    assert_eq!(rt; first_request_fault_off(&BAD_REQUESTS), None);
+fn frames_are_decoded_and_encoded_as_the_vectors(rt: HostRuntime) {
+    let off = [first_request_off(), first_reply_off()];
+    assert!(rt; are_decoded() && off == [None; 2] && is_written_around());
 }
 
 #[test]
-fn the_first_fault_of_a_reply_is_told(rt: HostRuntime) {
-    assert_eq!(rt; first_reply_fault_off(&BAD_REPLIES), None);
+fn the_first_fault_of_bytes_is_reported(rt: HostRuntime) {
+    let off = [
+        first_request_fault_off(&BAD_HEADS),
+        first_request_fault_off(&BAD_REQUESTS),
+        first_reply_fault_off(&BAD_REPLIES),
+    ];
+    assert!(rt; off == [None; 3]);
 }

@@ -1,10 +1,9 @@
 //! Tests of `schedule_text`: schedules, scripts and bad lines from outside.
 
 use cl_types::config::OffloadConfig;
-use cl_types::schedule::{CallText, Event, What};
+use cl_types::schedule::{CallText, Event, Schedule, Script, What};
 use schedule_text::{ScheduleFault, read, read_script};
 use std::alloc::Global;
-use std::test::Fail;
 
 const SCHEDULE: &[u8] =
     b"# a store\nnode 16 8 4 4\noffload kv 13\nclient 1 1\n\ncall 1 write 0x1000 6162*3\n\
@@ -23,28 +22,27 @@ fn writes_ab_3_times(event: &Event) -> bool {
     }
 }
 
-/// Whether the schedule is read as what it spells: its header, its store, its records and its events.
-fn is_read(alloc: Global) -> Result<[bool; 4], ScheduleFault> {
-    let schedule = read(alloc, SCHEDULE)?;
+/// Whether a schedule has the header, the store, the records and the events of `SCHEDULE`.
+fn is_schedule(schedule: &Schedule) -> [bool; 4] {
     let node = &schedule.config.node;
     let events = schedule.events.as_slice();
     if events.len() != 5 {
-        return Ok([false; 4]);
+        return [false; 4];
     }
-    Ok([
+    [
         schedule.header.as_slice() == HEADER,
         node.offloads.as_slice() == [OffloadConfig::Kv { records: 13 }].as_slice(),
         node.retry == 4,
         [events[0].0, events[1].0, events[4].0] == [6, 7, 10]
             && writes_ab_3_times(&events[0].1)
             && matches!(events[1].1, Event::DeliverNext),
-    ])
+    ]
 }
 
-#[test]
-fn a_schedule_is_read(rt: HostRuntime) -> Result<(), Fail> {
-    assert_eq!(rt; is_read(rt.alloc())?, [true; 4]);
-    Ok(())
+/// Whether the schedule is decoded so.
+fn is_read(alloc: Global) -> Result<[bool; 4], ScheduleFault> {
+    let schedule = read(alloc, SCHEDULE)?;
+    Ok(is_schedule(&schedule))
 }
 
 /// Bytes that are no schedule, their first bad line, and what is wrong with it.
@@ -100,44 +98,52 @@ const BAD_LINES: [(&[u8], u32, What); 17] = [
     ),
 ];
 
-/// The first row of which something else is told, by its place from 0.
-fn first_told_otherwise(alloc: Global) -> Option<usize> {
-    for (at, (text, number, what)) in BAD_LINES.iter().enumerate() {
+/// Why bytes are no schedule.
+fn fault_of(alloc: Global, text: &[u8]) -> Option<ScheduleFault> {
+    match read(alloc, text) {
+        Ok(_) => None,
+        Err(fault) => Some(fault),
+    }
+}
+
+/// The first row of which another fault is reported, by its place from 0.
+fn first_off(alloc: Global, rows: &[(&[u8], u32, What)]) -> Option<usize> {
+    for (at, (text, number, what)) in rows.iter().enumerate() {
         let want = ScheduleFault::Line {
             number: *number,
             what: *what,
         };
-        match read(alloc, text) {
-            Ok(_) => return Some(at),
-            Err(told) => {
-                if told != want {
-                    return Some(at);
-                }
-            }
+        if fault_of(alloc, text) != Some(want) {
+            return Some(at);
         }
     }
     None
 }
 
-#[test]
-fn the_first_bad_line_is_told(rt: HostRuntime) {
-    assert_eq!(rt; first_told_otherwise(rt.alloc()), None);
-}
-
 const SCRIPT: &[u8] = b"# calls\nalloc 1 rw\ncas 0x1000 0 5\noffload 0 2 4 -\n\nfence";
 
-/// Whether the script is read as its four calls, on their lines.
+/// Whether these are the four calls of `SCRIPT`, on their lines.
+fn is_script(script: &Script) -> bool {
+    let calls = script.calls.as_slice();
+    calls.len() == 4 && [calls[0].0, calls[3].0] == [2, 6] && matches!(calls[3].1, CallText::Fence)
+}
+
+/// Whether the script is decoded so.
 fn script_is_read(alloc: Global) -> Result<bool, ScheduleFault> {
     let script = read_script(alloc, SCRIPT)?;
-    let calls = script.calls.as_slice();
-    if calls.len() != 4 {
-        return Ok(false);
-    }
-    Ok([calls[0].0, calls[3].0] == [2, 6] && matches!(calls[3].1, CallText::Fence))
+    Ok(is_script(&script))
+}
+
+/// Whether the schedule and the script are decoded, and the first bad line of each other text is reported.
+fn are_read(alloc: Global) -> [bool; 3] {
+    [
+        is_read(alloc) == Ok([true; 4]),
+        script_is_read(alloc) == Ok(true),
+        first_off(alloc, &BAD_LINES).is_none(),
+    ]
 }
 
 #[test]
-fn a_script_is_read(rt: HostRuntime) -> Result<(), Fail> {
-    assert!(rt; script_is_read(rt.alloc())?);
-    Ok(())
+fn schedules_scripts_and_bad_lines_are_read(rt: HostRuntime) {
+    assert!(rt; are_read(rt.alloc()) == [true; 3]);
 }

@@ -6,11 +6,10 @@ use cl_types::call::{AtomicOp, Perm};
 use cl_types::frame::{BadFrame, FieldName, How, IssueFault};
 use cl_types::items::{Bytes, NoMemory};
 use cl_types::line::{Did, EndedCall, Entry, EventLine};
-use cl_types::numbers::{Addr, CallNo, ClientNo, try_pid};
+use cl_types::numbers::{Addr, CallNo, ClientNo, Pid, try_pid};
 use cl_types::reply::{Answer, Part, Refusal, Reply, Value};
 use cl_types::request::Request;
 use std::alloc::Global;
-use std::test::Fail;
 use transcript_text::{print_answered, print_entry, print_line, print_not_issued};
 
 const CLIENT: ClientNo = ClientNo(1);
@@ -35,9 +34,8 @@ fn print(line: u32, did: Did, to: &mut Bytes) -> Result<(), NoMemory>
     print_line(line, &EventLine { did, ended: None }, to)
 }
 
-/// Lines of a client and of a node.
-fn lines(alloc: Global) -> Result<Bytes, NoMemory> {
-    let mut to = Bytes::create(alloc);
+/// Appends the lines of `LINES`.
+fn print_lines(to: &mut Bytes) -> Result<(), NoMemory> {
     let sent = Did::Again {
         frame: 9,
         client: CLIENT,
@@ -45,7 +43,7 @@ fn lines(alloc: Global) -> Result<Bytes, NoMemory> {
         id: 5,
         orig: 1,
     };
-    print(8, sent, &mut to)?;
+    print(8, sent, to)?;
     let handled = Did::Handled {
         frame: 7,
         client: CLIENT,
@@ -54,7 +52,7 @@ fn lines(alloc: Global) -> Result<Bytes, NoMemory> {
         status: 4,
         reply: 8,
     };
-    print(13, handled, &mut to)?;
+    print(13, handled, to)?;
     let busy = Did::Busy {
         frame: 6,
         client: CLIENT,
@@ -62,12 +60,11 @@ fn lines(alloc: Global) -> Result<Bytes, NoMemory> {
         oldest: 0,
         now: 399,
     };
-    print(14, busy, &mut to)?;
+    print(14, busy, to)?;
     let fault = IssueFault::Misaligned { addr: Addr(0) };
-    print(3, Did::NotIssued { fault }, &mut to)?;
+    print(3, Did::NotIssued { fault }, to)?;
     let fault = BadFrame::Field(FieldName::Orig);
-    print(4, Did::Bad { fault }, &mut to)?;
-    Ok(to)
+    print(4, Did::Bad { fault }, to)
 }
 
 const LINES: &str = "8 again 9 1.1.4 id 5 orig 1
@@ -77,11 +74,10 @@ const LINES: &str = "8 again 9 1.1.4 id 5 orig 1
 4 bad field orig
 ";
 
-#[test]
-fn an_event_has_its_line(rt: HostRuntime) -> Result<(), Fail> {
-    let alloc = rt.alloc();
-    assert_eq!(rt; lines(alloc)?.as_slice(), LINES.as_bytes());
-    Ok(())
+/// Whether they are those.
+fn lines_are_printed(alloc: Global) -> bool {
+    let mut to = Bytes::create(alloc);
+    print_lines(&mut to).is_ok() && to.as_slice() == LINES.as_bytes()
 }
 
 /// Appends the line of a reply by which a call ended with these bytes.
@@ -92,6 +88,7 @@ fn print_end(
     text: &[u8],
     to: &mut Bytes,
 ) -> Result<(), NoMemory> {
+    let bytes = bytes_of(alloc, text)?;
     let did = Did::Took {
         frame: 6,
         client: CLIENT,
@@ -101,7 +98,7 @@ fn print_end(
         client: CLIENT,
         call: CallNo(call),
         answer,
-        bytes: bytes_of(alloc, text)?,
+        bytes,
     });
     print_line(14, &EventLine { did, ended }, to)
 }
@@ -122,13 +119,13 @@ const ENDS: [(u32, Answer, &[u8]); 5] = [
     ),
 ];
 
-/// The lines by which they ended, behind one that stands.
-fn ends(alloc: Global) -> Result<Bytes, NoMemory> {
-    let mut to = bytes_of(alloc, b"node 16 8 4 4\n")?;
-    for (call, answer, text) in ENDS {
-        print_end(alloc, call, answer, text, &mut to)?;
+/// Appends a line, and those by which they ended.
+fn print_ends(alloc: Global, to: &mut Bytes) -> Result<(), NoMemory> {
+    to.append(b"node 16 8 4 4\n")?;
+    for (call, answer, text) in &ENDS {
+        print_end(alloc, *call, *answer, text, to)?;
     }
-    Ok(to)
+    Ok(())
 }
 
 const ENDING_LINES: &str = "node 16 8 4 4
@@ -139,18 +136,14 @@ const ENDING_LINES: &str = "node 16 8 4 4
 14 took 6 1.7.0; answer 1.7 timed out 0 400
 ";
 
-#[test]
-fn an_ended_call_has_its_answer(rt: HostRuntime) -> Result<(), Fail> {
-    let alloc = rt.alloc();
-    assert_eq!(rt; ends(alloc)?.as_slice(), ENDING_LINES.as_bytes());
-    Ok(())
+/// Whether they are those.
+fn ends_are_printed(alloc: Global) -> bool {
+    let mut to = Bytes::create(alloc);
+    print_ends(alloc, &mut to).is_ok() && to.as_slice() == ENDING_LINES.as_bytes()
 }
 
 /// Appends the line of an entry.
-fn print_done(request: Request, reply: Reply, to: &mut Bytes) -> Result<(), NoMemory> {
-    let Some(pid) = try_pid(1) else {
-        return Ok(());
-    };
+fn print_done(pid: Pid, request: Request, reply: Reply, to: &mut Bytes) -> Result<(), NoMemory> {
     let entry = Entry {
         line: 5,
         position: 0,
@@ -163,27 +156,25 @@ fn print_done(request: Request, reply: Reply, to: &mut Bytes) -> Result<(), NoMe
     print_entry(&entry, to)
 }
 
-/// The lines of four entries.
-fn entries(alloc: Global) -> Result<Bytes, NoMemory> {
-    let mut to = Bytes::create(alloc);
+/// Appends the lines of four entries.
+fn print_entries(alloc: Global, pid: Pid, to: &mut Bytes) -> Result<(), NoMemory> {
     let addr = Addr(0x1000);
     let page = Request::Alloc {
         pages: 1,
         perm: Perm::ReadWrite,
     };
-    print_done(page, Reply::At(addr), &mut to)?;
+    print_done(pid, page, Reply::At(addr), to)?;
     let bytes = bytes_of(alloc, b"abc")?;
-    print_done(Request::Write { addr, bytes }, Reply::Nothing, &mut to)?;
+    print_done(pid, Request::Write { addr, bytes }, Reply::Nothing, to)?;
     let op = AtomicOp::Cas { expect: 0, put: 5 };
-    print_done(Request::Atomic { addr, op }, Reply::Word(7), &mut to)?;
+    print_done(pid, Request::Atomic { addr, op }, Reply::Word(7), to)?;
     let called = Request::Offload {
         no: 0,
         op: 2,
         out: 9,
         bytes: Bytes::create(alloc),
     };
-    print_done(called, Reply::Refused(Refusal::BadOp), &mut to)?;
-    Ok(to)
+    print_done(pid, called, Reply::Refused(Refusal::BadOp), to)
 }
 
 const ENTRIES: &str = "h 5 0 1.1.0 alloc 1 rw = ok 0x1000
@@ -192,27 +183,39 @@ h 5 0 1.1.0 cas 0x1000 0 5 = ok 7
 h 5 0 1.1.0 offload 0 2 9 - = bad op
 ";
 
-#[test]
-fn an_entry_has_its_line(rt: HostRuntime) -> Result<(), Fail> {
-    let alloc = rt.alloc();
-    assert_eq!(rt; entries(alloc)?.as_slice(), ENTRIES.as_bytes());
-    Ok(())
+/// Whether they are those of `ENTRIES`.
+fn entries_are_printed(alloc: Global) -> bool {
+    let Some(pid) = try_pid(1) else {
+        return false;
+    };
+    let mut to = Bytes::create(alloc);
+    print_entries(alloc, pid, &mut to).is_ok() && to.as_slice() == ENTRIES.as_bytes()
 }
 
 const CALLS: &str = "3 not issued empty
 4 done 6162
 ";
 
-/// Whether the lines of calls of a script are those of `CALLS`.
-fn prints_what_came_of_calls(alloc: Global) -> Result<bool, NoMemory> {
+/// Appends the lines of two calls of a script.
+fn print_calls(to: &mut Bytes) -> Result<(), NoMemory> {
+    print_not_issued(3, IssueFault::Empty, to)?;
+    print_answered(4, Answer::Done(Value::Len(2)), b"ab", to)
+}
+
+/// Whether they are those of `CALLS`.
+fn calls_are_printed(alloc: Global) -> bool {
     let mut to = Bytes::create(alloc);
-    print_not_issued(3, IssueFault::Empty, &mut to)?;
-    print_answered(4, Answer::Done(Value::Len(2)), b"ab", &mut to)?;
-    Ok(to.as_slice() == CALLS.as_bytes())
+    print_calls(&mut to).is_ok() && to.as_slice() == CALLS.as_bytes()
 }
 
 #[test]
-fn a_call_of_a_script_has_its_line(rt: HostRuntime) -> Result<(), Fail> {
-    assert!(rt; prints_what_came_of_calls(rt.alloc())?);
-    Ok(())
+fn events_answers_entries_and_calls_have_their_lines(rt: HostRuntime) {
+    let alloc = rt.alloc();
+    let are_printed = [
+        lines_are_printed(alloc),
+        ends_are_printed(alloc),
+        entries_are_printed(alloc),
+        calls_are_printed(alloc),
+    ];
+    assert!(rt; are_printed == [true; 4]);
 }
