@@ -1,5 +1,6 @@
 -- What was taken off the front of a list that may be told, or added at its end, piece by piece.
-use Rattle.std.proofs.Common.{◌≡◌, ℕ, ◌+◌, ◌≤◌, List, ◌++◌, length, take, drop, sym, subst, ◌∙◌, ap, append_assoc, arith, length-append, take-add}
+use Rattle.std.proofs.Common.{◌≡◌, ℕ, ◌+◌, ◌<◌, ◌≤◌, List, ◌++◌, length, take, drop, sym, subst, ◌∙◌, ap, append_assoc, arith, length-append, take-add}
+use Rattle.std.specs.Prelude.{IfSome}
 use Rattle.std.specs.Option.{option_map}
 use Rattle.std.specs.declared.option.Option.{Option}
 use Rattle.std.specs.declared.option.Option.TheVariants.{Some, None}
@@ -18,6 +19,13 @@ pub took_more : (most more : ℕ) (bytes : List ℕ) (before mid after : Option 
 took_more most more bytes before mid after took few (piece, short, off) =
     let long : length (bytes ++ piece) ≡ length bytes + length piece = length-append bytes piece in
     (bytes ++ piece, omega (arith, few, short, long), took_twice bytes piece before mid after took off)
+
+-- and where more than so many were taken, there were more
+pub took_long : (n : ℕ) (bytes : List ℕ) (before after : Option (List ℕ)) → Took bytes before after → n < length bytes → IfSome before (λ left. n < length left)
+took_long n bytes before None took long = subst (λ (b : Option (List ℕ)). IfSome b (λ left. n < length left)) (sym took) tt
+took_long n bytes before (Some left) took long =
+    let all : length (bytes ++ left) ≡ length bytes + length left = length-append bytes left in
+    subst (λ (b : Option (List ℕ)). IfSome b (λ left. n < length left)) (sym took) (omega (arith, all, long))
 
 -- ---- added at the end
 -- two additions are one

@@ -4,6 +4,7 @@ ghost use Rattle.std.specs.Prelude.{◌≡◌, ◌<◌, ◌≤◌, ◌+◌, ◌-
 ghost use Rattle.cl_outside.specs.Told.{Added};
 ghost use Rattle.cl_outside.specs.Loops.{CountsReads, CountsWrites, GotPiece, IsPieceStop, IsReadStop, TookCount, TookUpTo, WroteFront};
 ghost use Rattle.cl_types.specs.declared.limits.TheConstants.{INPUT_BYTES};
+ghost use Rattle.cl_outside.specs.declared.loops.TheConstants.{PIECE};
 
 use crate::{Read, Sink, Source, Wrote};
 use cl_types::limits::INPUT_BYTES;
@@ -36,6 +37,16 @@ impl From<AllocError> for Stop {
     }
 }
 
+// How many bytes to ask for after `len` bytes: at most a piece, and at most one byte more than an input may have.
+fn room_after(len: usize) -> usize
+    requires { len ≤ INPUT_BYTES }
+    ensures some { 0 < result }
+    ensures within { result ≤ INPUT_BYTES + 1 - len }
+    ensures piece { result ≤ PIECE }
+{
+    (INPUT_BYTES + 1 - len).min(PIECE)
+}
+
 // Reads one piece and appends it. False says that the input has ended.
 fn read_piece<S: Source>(source: &mut S, bytes: &mut Vec<u8>) -> Result<bool, Stop>
     requires { length bytes.old.items ≤ INPUT_BYTES }
@@ -48,7 +59,7 @@ fn read_piece<S: Source>(source: &mut S, bytes: &mut Vec<u8>) -> Result<bool, St
     ensures counted { CountsReads (S.faults source.old) (S.faults source.new) result }
 {
     let mut piece = [0u8; PIECE];
-    let room = (INPUT_BYTES + 1 - bytes.len()).min(PIECE);
+    let room = room_after(bytes.len());
     match source.read(&mut piece[..room]) {
         Read::Got(count) => {
             bytes.extend_from_slice(&piece[..count])?;

@@ -1,0 +1,12 @@
+use Rattle.std.proofs.lemmas.Result.{err_from_is_err_and}
+use Rattle.world.proofs.create.around.Goals as goal
+
+pub returns-in_err-clients-clause-memory : goal.returns-in_err-clients-clause-memory
+returns-in_err-clients-clause-memory c =
+    let exit = err_from_is_err_and c.from_residual.result c.from_residual.ensures.1 in
+    rw exit.1 exit.2
+
+pub returns-in_err-link-clause-memory : goal.returns-in_err-link-clause-memory
+returns-in_err-link-clause-memory c =
+    let exit = err_from_is_err_and c.from_residual-in_err-link.result c.from_residual-in_err-link.ensures.1 in
+    rw exit.1 exit.2
