@@ -1,15 +1,13 @@
 -- Where the pieces of a store stand, and what a write leaves of them.
-use Rattle.std.proofs.Common.{◌≡◌, ◌≢◌, ℕ, zero, suc, ◌+◌, ◌-◌, ◌*◌, ◌/◌, ◌<◌, ◌≤◌, ◌^◌, ◌⊎◌, inl, inr, List, [], ◌∷◌, length, take, drop, refl, sym, ap, subst, ◌∙◌, arith}
+use Rattle.std.proofs.Common.{◌≡◌, ◌≢◌, ℕ, ◌+◌, ◌-◌, ◌*◌, ◌/◌, ◌<◌, ◌≤◌, ◌^◌, inl, inr, List, length, sym, ap, subst, ◌∙◌, arith}
 use Rattle.std.proofs.lemmas.Bool.{cases_eq, cases_lt}
 use Rattle.std.proofs.lemmas.Bool.Decides.{nat_tests}
-use Rattle.std.proofs.lemmas.List.{drop-drop, drop-take}
-use Rattle.cl_types.specs.Bytes.{bytes_at, with_bytes}
+use Rattle.cl_types.specs.Bytes.{with_bytes}
 use Rattle.cl_types.specs.Spaces.{IsInOnePage}
 use Rattle.kv_offload.specs.declared.layout.TheConstants.{HEADS}
 use Rattle.kv_offload.specs.Layout.{slot_place, link_place}
 use Rattle.kv_offload.specs.Stored.{HasPages}
-use Rattle.lemmas.proofs.Pieces.{piece_kept_before, piece_kept_behind}
-use Rattle.cl_types.proofs.PutBytes.{length-with_bytes}
+use Rattle.lemmas.proofs.Pieces.{AreApart, Leaves, leaves_put}
 
 -- ---- places
 -- a slot lies behind the first page
@@ -65,10 +63,6 @@ link_in records node contents has less = elim (cases_lt node HEADS) [
 pub link_whole : (records node : ℕ) (contents : List ℕ) → HasPages records contents → node < HEADS + records → link_place node + 2 ≤ length contents
 link_whole records node contents has less = let in_page = link_in records node contents has less in omega (arith, in_page.3, in_page.4)
 
--- two pieces that share no byte
-abbrev pub AreApart : ℕ → ℕ → ℕ → ℕ → Type 0
-AreApart at n from size = (at + n ≤ from) ⊎ (from + size ≤ at)
-
 pub slots_apart : (slot other : ℕ) → slot ≢ other → AreApart (slot_place slot) 293 (slot_place other) 293
 slots_apart slot other ne = elim (cases_lt slot other) [
   | inl less ↦ let h = slots_rise slot other less in inl (omega arith)
@@ -115,50 +109,12 @@ count_apart node = elim (cases_lt node HEADS) [
 ]
 
 -- ---- pieces
--- a piece of a piece
-pub piece_of : (at off n m : ℕ) (contents : List ℕ) → off + n ≤ m → bytes_at (at + off) n contents ≡ bytes_at off n (bytes_at at m contents)
-piece_of at off n m contents fits =
-    let long : m ≡ off + (m - off) = omega arith in
-    ap (take n) (sym (drop-drop off at contents))
-    ∙ sym (take_take n (m - off) (drop off (drop at contents)) (omega arith))
-    ∙ ap (take n) (sym (drop-take off (m - off) (drop at contents)))
-    ∙ ap (λ k. take n (drop off (take k (drop at contents)))) (sym long)
-  where
-    take_take : (n m : ℕ) (xs : List ℕ) → n ≤ m → take n (take m xs) ≡ take n xs
-    take_take zero m xs le = refl
-    take_take (suc n) zero xs le = absurd (omega arith)
-    take_take (suc n) (suc m) [] le = refl
-    take_take (suc n) (suc m) (x ∷ xs) le = ap (λ ys. x ∷ ys) (take_take n m xs (omega arith))
-
 -- the same write, spelled otherwise
 pub put_same : (at at' : ℕ) (bytes bytes' old new : List ℕ) → at ≡ at' → bytes ≡ bytes' → new ≡ with_bytes at bytes old → new ≡ with_bytes at' bytes' old
 put_same at at' bytes bytes' old new e f is = is ∙ ap (λ k. with_bytes k bytes old) e ∙ ap (λ b. with_bytes at' b old) f
 
 pub page_same : (at at' n n' size : ℕ) → at ≡ at' → n ≡ n' → IsInOnePage at' n' size → IsInOnePage at n size
 page_same at at' n n' size e f h = subst (λ k. IsInOnePage k n size) (sym e) (subst (λ m. IsInOnePage at' m size) (sym f) h)
-
--- nothing is written but within these places
-pub record Leaves (from size : ℕ) (old new : List ℕ) : Type 0 where
-  pub kept : (at n : ℕ) → AreApart at n from size → bytes_at at n new ≡ bytes_at at n old
-  pub long : length new ≡ length old
-
-pub leaves_put : (at : ℕ) (bytes old : List ℕ) → at + length bytes ≤ length old → Leaves at (length bytes) old (with_bytes at bytes old)
-leaves_put at bytes old within = record {
-  kept = λ off n apart. elim apart [
-    | inl before ↦ piece_kept_before at off n bytes old before (omega arith)
-    | inr behind ↦ piece_kept_behind at off n bytes old behind (omega arith)
-  ];
-  long = length-with_bytes at bytes old within;
-}
-
-pub leaves_then : {from size : ℕ} {old mid new : List ℕ} → Leaves from size old mid → Leaves from size mid new → Leaves from size old new
-leaves_then first next = record { kept = λ at n apart. next.kept at n apart ∙ first.kept at n apart; long = next.long ∙ first.long }
-
-pub leaves_wider : {from size : ℕ} {old new : List ℕ} (from' size' : ℕ) → from' ≤ from → from + size ≤ from' + size' → Leaves from size old new → Leaves from' size' old new
-leaves_wider from' size' low high leaves = record {
-  kept = λ at n apart. leaves.kept at n (elim apart [ inl before ↦ inl (omega arith) | inr behind ↦ inr (omega arith) ]);
-  long = leaves.long;
-}
 
 pub pages_left : {from size records : ℕ} {old new : List ℕ} → Leaves from size old new → HasPages records old → HasPages records new
 pages_left leaves has = record { some = has.some; few = has.few; pages = omega (arith, has.pages, leaves.long) }

@@ -6,8 +6,8 @@ use Rattle.std.proofs.lemmas.Nat.{from_be_bytes-to_be_bytes_2}
 use Rattle.cl_types.specs.Bytes.{bytes_at, with_bytes}
 use Rattle.kv_offload.specs.declared.layout.TheConstants.{HEADS, KEY_AT, VALUE_AT}
 use Rattle.kv_offload.specs.Layout.{View, Says, front_of, slot_place, link_place, link_of, count_of, key_size, value_size, key_of, value_of, but_at, with_link, with_slot, with_count}
-use Rattle.lemmas.proofs.Pieces.{piece_put}
-use Rattle.kv_offload.proofs.PlaceLemmas.{AreApart, Leaves, piece_of, slots_apart, links_apart, record_apart, link_apart, count_apart, link_of_slot, slot_above, leaves_put, leaves_then, leaves_wider}
+use Rattle.lemmas.proofs.Pieces.{AreApart, Leaves, piece_put, piece_of, leaves_put, leaves_then, leaves_wider}
+use Rattle.kv_offload.proofs.PlaceLemmas.{slots_apart, links_apart, record_apart, link_apart, count_apart, link_of_slot, slot_above}
 use Rattle.cl_types.specs.declared.limits.TheConstants.{VALUE_BYTES}
 
 module _ {A : Type 0} (f : ℕ → A) where

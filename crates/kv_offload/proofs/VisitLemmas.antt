@@ -8,8 +8,9 @@ use Rattle.cl_types.specs.Spaces.{IsInOnePage}
 use Rattle.kv_offload.specs.declared.layout.TheConstants.{HEADS, KEY_AT, VALUE_AT}
 use Rattle.kv_offload.specs.Layout.{number_at, slot_place, link_of, key_size, value_size, key_of, value_of}
 use Rattle.kv_offload.specs.Stored.{HasPages}
-use Rattle.kv_offload.proofs.PlaceLemmas.{Leaves, slot_in, link_of_slot, piece_of, leaves_put, pages_left}
+use Rattle.kv_offload.proofs.PlaceLemmas.{slot_in, link_of_slot, pages_left}
 use Rattle.kv_offload.proofs.SaysLemmas.{piece_of_front}
+use Rattle.lemmas.proofs.Pieces.{Leaves, piece_of, leaves_put}
 
 -- a piece from the start of a slot lies in one page
 pub slot_start_in : (records slot place n : ℕ) (contents : List ℕ) → place ≡ slot_place slot → HasPages records contents → slot < records → n ≤ 315

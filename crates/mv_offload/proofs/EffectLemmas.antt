@@ -5,8 +5,8 @@ use Rattle.cl_types.specs.Bytes.{bytes_at, with_bytes}
 use Rattle.mv_offload.specs.Versions.{version_count}
 use Rattle.mv_offload.specs.Layout.{put_number, put_record, number_at, record_place, head_place, objects_of, count_of, last_of, number_of, link_of, size_of, bytes_of}
 use Rattle.mv_offload.specs.Stored.{HasPages, IsStore, held_in, versions_at, list_of}
-use Rattle.lemmas.proofs.Pieces.{piece_put}
-use Rattle.mv_offload.proofs.PlaceLemmas.{AreApart, Leaves, leaves_put, leaves_then, leaves_wider, pages_left, number_put, number_leaves, number_left, bytes_left, record_above, records_apart, record_whole, first_whole}
+use Rattle.lemmas.proofs.Pieces.{AreApart, Leaves, leaves_put, leaves_then, leaves_wider, piece_put}
+use Rattle.mv_offload.proofs.PlaceLemmas.{pages_left, number_put, number_leaves, number_left, bytes_left, record_above, records_apart, record_whole, first_whole}
 use Rattle.mv_offload.proofs.StoreLemmas.{Keeps, keeps_then, keeps_left, first_apart, Creates, created_held, created_sound, Appends, appended_held, appended_sound}
 
 -- ---- an empty store

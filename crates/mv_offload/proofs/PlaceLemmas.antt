@@ -1,5 +1,5 @@
 -- Where the counts, heads and records are, and what a write leaves of them.
-use Rattle.std.proofs.Common.{◌≡◌, ℕ, ◌+◌, ◌/◌, ◌<◌, ◌≤◌, ◌^◌, ◌⊎◌, inl, inr, List, ◌++◌, length, take, sym, ap, subst, ◌∙◌, arith}
+use Rattle.std.proofs.Common.{◌≡◌, ℕ, ◌+◌, ◌/◌, ◌<◌, ◌≤◌, ◌^◌, inl, inr, List, ◌++◌, length, take, sym, ap, subst, ◌∙◌, arith}
 use Rattle.std.specs.Int.{from_be_bytes, to_be_bytes, w16}
 use Rattle.std.proofs.Math.Seq.{take-append_seam}
 use Rattle.std.proofs.lemmas.Nat.{from_be_bytes-to_be_bytes_2}
@@ -7,8 +7,7 @@ use Rattle.cl_types.specs.Bytes.{bytes_at, with_bytes}
 use Rattle.cl_types.specs.Spaces.{IsInOnePage}
 use Rattle.mv_offload.specs.Layout.{record_place, number_at, put_number, bytes_of, size_of}
 use Rattle.mv_offload.specs.Stored.{HasPages}
-use Rattle.cl_types.proofs.PutBytes.{length-with_bytes}
-use Rattle.lemmas.proofs.Pieces.{piece_put, piece_kept_before, piece_kept_behind}
+use Rattle.lemmas.proofs.Pieces.{AreApart, Leaves, piece_put, leaves_put}
 
 -- ---- places
 -- a record is after the first page
@@ -59,36 +58,6 @@ pub first_whole : {objects versions : ℕ} {contents : List ℕ} → HasPages ob
 first_whole has = omega (arith, has.pages)
 
 -- ---- what a write leaves
--- two pieces that share no byte
-abbrev pub AreApart : ℕ → ℕ → ℕ → ℕ → Type 0
-AreApart at n from size = (at + n ≤ from) ⊎ (from + size ≤ at)
-
--- nothing is written but within these places
-pub record Leaves (from size : ℕ) (old new : List ℕ) : Type 0 where
-  pub kept : (at n : ℕ) → AreApart at n from size → bytes_at at n new ≡ bytes_at at n old
-  pub long : length new ≡ length old
-
--- a write leaves all but its own place
-pub leaves_put : (at : ℕ) (bytes old : List ℕ) → at + length bytes ≤ length old → Leaves at (length bytes) old (with_bytes at bytes old)
-leaves_put at bytes old within = record {
-  kept = λ off n apart. elim apart [
-    | inl before ↦ piece_kept_before at off n bytes old before (omega arith)
-    | inr behind ↦ piece_kept_behind at off n bytes old behind (omega arith)
-  ];
-  long = length-with_bytes at bytes old within;
-}
-
--- two writes to one place leave the rest
-pub leaves_then : {from size : ℕ} {old mid new : List ℕ} → Leaves from size old mid → Leaves from size mid new → Leaves from size old new
-leaves_then first next = record { kept = λ at n apart. next.kept at n apart ∙ first.kept at n apart; long = next.long ∙ first.long }
-
--- what is left around a place is left around a wider one
-pub leaves_wider : {from size : ℕ} {old new : List ℕ} (from' size' : ℕ) → from' ≤ from → from + size ≤ from' + size' → Leaves from size old new → Leaves from' size' old new
-leaves_wider from' size' low high leaves = record {
-  kept = λ at n apart. leaves.kept at n (elim apart [ inl before ↦ inl (omega arith) | inr behind ↦ inr (omega arith) ]);
-  long = leaves.long;
-}
-
 -- a write leaves the pages there
 pub pages_left : {from size objects versions : ℕ} {old new : List ℕ} → Leaves from size old new → HasPages objects versions old → HasPages objects versions new
 pages_left leaves has = record {

@@ -6,7 +6,8 @@ use Rattle.mv_offload.specs.Versions.{version_count}
 use Rattle.mv_offload.specs.Layout.{record_place, objects_of, count_of, last_of, number_of, link_of, size_of, bytes_of}
 use Rattle.mv_offload.specs.Stored.{IsStore, IsSound, held_in, versions_at, versions_up, list_of}
 use Rattle.mv_offload.proofs.HeldLemmas.{list_of-same, list_of-more, list_of-set, count-list_of, same_versions}
-use Rattle.mv_offload.proofs.PlaceLemmas.{AreApart, Leaves, number_left, bytes_left, record_above}
+use Rattle.lemmas.proofs.Pieces.{AreApart, Leaves}
+use Rattle.mv_offload.proofs.PlaceLemmas.{number_left, bytes_left, record_above}
 
 -- ---- records that stay
 -- the records below a number stay

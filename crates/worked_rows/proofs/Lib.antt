@@ -6,3 +6,4 @@ mod VectorRows
 mod CommandRows
 mod HistoryRows
 mod LoopRows
+mod DataFrameRows
