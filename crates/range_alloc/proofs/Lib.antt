@@ -4,3 +4,5 @@ pub mod Fitting
 pub mod Window
 pub mod Ranges
 pub mod Frames
+pub mod Perms
+pub mod NodeLemmas

@@ -1,2 +1,4 @@
 pub mod Ranges
 pub mod Joins
+pub mod RangeSets
+pub mod Nodes

@@ -1,5 +1,5 @@
 -- The ranges of a page table: what the contracts say of them.
-use Rattle.std.specs.Prelude.{◌≡◌, ℕ, ◌+◌, ◌<◌, ◌≤◌, not, List, [], ◌∷◌, Option, Some, None, option_map, IsSome}
+use Rattle.std.specs.Prelude.{◌≡◌, ℕ, ◌+◌, ◌<◌, ◌≤◌, true, false, not, map, List, [], ◌∷◌, Option, Some, None, option_map, IsSome}
 use Rattle.std.specs.List.{filter_map}
 use Rattle.std.specs.FinMap.Entries.{put, where_key}
 use Rattle.cl_types.specs.declared.call.Perm.{Perm}
@@ -38,6 +38,15 @@ with_range table space start n perm = record table { entries = with_pages perm n
 abbrev pub without_range : PageMap → ℕ → ℕ → ℕ → PageMap
 without_range table space start n =
     record table { entries = where_key place_cmp (λ place. not (is_among space start n place)) table.entries }
+
+-- the entry of a page, with this permission where it is one of these pages
+abbrev pub permitted : ℕ → ℕ → ℕ → Perm → Place → Pte → Pte
+permitted space start n perm place pte = elim (is_among space start n place) [ true ↦ record pte { perm = perm } | false ↦ pte ]
+
+-- the table in which the n pages from start on have a permission; their frames and spans and all other entries stay
+abbrev pub with_perms : PageMap → ℕ → ℕ → ℕ → Perm → PageMap
+with_perms table space start n perm =
+    record table { entries = map (λ entry. (entry.0, permitted space start n perm entry.0 entry.1)) table.entries }
 
 -- the frames of the n pages from start on, in the order of the pages
 abbrev pub frames_of : PageMap → ℕ → ℕ → ℕ → List ℕ

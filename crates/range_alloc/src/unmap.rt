@@ -43,8 +43,8 @@ pub fn unmap_range(
     true
 }
 
-// How many pages the range has that begins here, and 0 where none does.
-fn span(table: &Table, space: Space16, start: Vpn) -> u16
+/// How many pages the range has that begins here, and 0 where none does.
+pub fn span(table: &Table, space: Space16, start: Vpn) -> u16
     ensures span { result ≡ span_at table.now (space.0, start.0) }
     ensures valid { IsValid table.now }
 {
