@@ -85,7 +85,7 @@ fit_cached s cache w cached = record {
 }
 
 pub whole_cached : (s : PageStore) (cache : Cached) → IsWhole s → IsCached cache s.table → IsWhole (record s { cache = cache })
-whole_cached s cache whole cached = record { fit = fit_cached s cache whole.fit cached; keys = whole.keys; held = whole.held }
+whole_cached s cache whole cached = record { fit = fit_cached s cache whole.fit cached; keys = whole.keys; held = whole.held; listed = whole.listed }
 
 -- ---- a page that is fresh no more, and then changed
 pub changed_open : (m mid new : FlatState) (space page : ℕ) (p : Page) (at : ℕ) (bytes : List ℕ) → T (is_sorted place_cmp m.map) → mid ≡ written m space page p (bytes_of p)

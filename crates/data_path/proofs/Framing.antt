@@ -27,6 +27,7 @@ use Rattle.flat_model.specs.Rows.{keys}
 use Rattle.flat_model.specs.State.{Page, page_at, used, bytes_of}
 use Rattle.flat_model.specs.Step.{written, is_out_of_pages}
 use Rattle.data_path.specs.declared.store.PageStore.{PageStore}
+use Rattle.data_path.specs.Listing.{AreListed}
 use Rattle.data_path.specs.Store.{page_in, pages_in, backed, memory_of, IsCached, IsFit, IsWhole}
 use Rattle.data_path.specs.Access.{IsFramed, IsOpen}
 use Rattle.data_path.proofs.Accesses.{changed_open, page_there, bytes_framed, bytes_fresh}
@@ -158,7 +159,7 @@ whole_wrote s frame at bytes whole taken size within =
       ];
       cached = w.cached;
     } in
-    record { fit = fit; keys = whole.keys; held = whole.held }
+    record { fit = fit; keys = whole.keys; held = whole.held; listed = whole.listed }
 
 -- ---- a page that has a frame
 pub framed_already : (s : PageStore) (place : Place) (pte : Pte) (frame : PageNo) → IsFit s → entry_of s.table place ≡ Some pte → pte.frame ≡ Some frame → IsFramed s s place pte frame
@@ -255,7 +256,7 @@ module _ (s : PageStore) (k : Place) (pte : Pte) (frame : PageNo) (one two : Poo
   framed_table = with_entry s.table k with_frame
 
   abbrev pub framed_store : PageStore
-  framed_store = record { table = framed_table; pool = two; arena = arena; cache = cache; spaces = s.spaces }
+  framed_store = record { table = framed_table; pool = two; arena = arena; cache = cache; spaces = s.spaces; ranges = s.ranges }
 
   -- what the calls of the parts gave
   pub record Given : Type 0 where
@@ -365,6 +366,7 @@ module _ (s : PageStore) (k : Place) (pte : Pte) (frame : PageNo) (one two : Poo
         | inl t ↦ let e : Some with_frame ≡ Some p = sym (entry-with s.table k with_frame place ∙ rw t.1 refl) ∙ found in let x : with_frame ≡ p = cc in ap (λ (y : Pte). is_some y.frame) (sym x)
         | inr n ↦ whole.held place p offload (sym (entry-with s.table k with_frame place ∙ rw n.1 refl) ∙ found)
       ];
+      listed = subst (λ (spans : List (Place × ℕ)). AreListed s.ranges spans s.table.buckets) (sym (spans-put k pte with_frame s.table.entries sorted g.there refl)) whole.listed;
     }
 
     zeroed : arena_page arena frame.0 ≡ bytes_of (page_in s.arena pte)

@@ -1,5 +1,5 @@
 -- Pages that are mapped one behind the other, each with the next frame.
-use Rattle.std.proofs.Common.{◌≡◌, ◌≢◌, ℕ, zero, suc, ◌+◌, ◌-◌, ◌<◌, ◌≤◌, ◌==◌, nat_lt, if◌then◌else◌, Bool, true, false, cond, inl, inr, is_some, List, [], ◌∷◌, ◌++◌, length, length-append, append_assoc, append-nil, replicate, min, Some, None, refl, sym, ap, ◌∙◌, subst, arith}
+use Rattle.std.proofs.Common.{◌≡◌, ◌≢◌, ℕ, zero, suc, ◌+◌, ◌-◌, ◌*◌, ◌<◌, ◌≤◌, ◌==◌, nat_lt, if◌then◌else◌, Bool, true, false, cond, inl, inr, is_some, List, [], ◌∷◌, ◌++◌, length, length-append, append_assoc, append-nil, replicate, min, Some, None, refl, sym, ap, ◌∙◌, subst, arith}
 use Rattle.std.specs.Cmp.{nat_cmp_is}
 use Rattle.std.specs.List.{range_with_len}
 use Rattle.std.specs.Ordering.{nat_cmp, ordering_then, is_eq}
@@ -26,7 +26,11 @@ use Rattle.flat_model.specs.State.{places_of}
 use Rattle.range_alloc.proofs.Entries.{entry-with}
 use Rattle.translate_cache.specs.Cached.{Cached}
 use Rattle.data_path.specs.declared.store.PageStore.{PageStore}
+use Rattle.range_alloc.specs.RangeSets.{RangeSets, ranges_in}
+use Rattle.range_alloc.specs.declared.lists.TheConstants.{SPACES}
+use Rattle.data_path.specs.Listing.{AreListed}
 use Rattle.data_path.specs.Store.{held_places, no_entries}
+use Rattle.data_path.proofs.Listing.{listed_none}
 use Rattle.data_path.specs.Laying.{SpannedPage, rows_of, spanned, rows_from, numbered, IsBehind, IsLaid}
 use Rattle.flat_model.proofs.FitLemmas.{range_next}
 use Rattle.page_pool.proofs.Filling.{range_append}
@@ -248,6 +252,7 @@ module _ (s : PageStore) (place : Place) (span : ℕ) (frame : PageNo) (table : 
         | inr n ↦ p.laid.within q (sym (ap is_some (ap (λ (t : PageMap). entry_of t q) p.is ∙ entry-with s.table place placed_entry q ∙ rw n.1 refl)) ∙ there)
       ];
       uncached = p.laid.uncached;
+      unlisted = subst (AreListed s.ranges []) (sym (ap (λ (t : PageMap). t.buckets) p.is)) p.laid.unlisted;
     }
 
 -- ---- the pages of one offload, so many of them
@@ -316,7 +321,7 @@ rows_all spaces new space n i rows all there is mapped =
     ∙ sym (rows-more 0 spaces n) ∙ ap (rows_from 0) (sym is)
 
 -- ---- no page is mapped
-module _ (table : PageMap) (pool : PoolPages) (arena : List (List ℕ)) (cache : Cached) (spaces : List ℕ) (buckets pages ring : ℕ) where
+module _ (table : PageMap) (pool : PoolPages) (arena : List (List ℕ)) (cache : Cached) (spaces : List ℕ) (lists : RangeSets) (buckets pages ring : ℕ) where
   pub record Made : Type 0 where
     pub table_is : table ≡ record { buckets = buckets; entries = [] }
     pub valid : IsValid table
@@ -325,6 +330,9 @@ module _ (table : PageMap) (pool : PoolPages) (arena : List (List ℕ)) (cache :
     pub ready : IsReady pool
     pub arena_is : arena ≡ replicate pages zero_page
     pub cache_is : cache ≡ no_entries
+    pub count : lists.count ≡ 0
+    pub nodes : lists.nodes ≡ 4 * table.buckets
+    pub empty : (space : ℕ) → space < SPACES → ranges_in lists space ≡ []
 
   module _ (m : Made) where
     none : table.entries ≡ []
@@ -341,7 +349,7 @@ module _ (table : PageMap) (pool : PoolPages) (arena : List (List ℕ)) (cache :
         ∙ ap (λ n. range_with_len 0 first ++ range_with_len n (pages - ring)) (let e : first ≡ 0 + first = omega arith in e)
         ∙ range_append 0 first (pages - ring) ∙ ap (range_with_len 0) (let e : min pages ring + (pages - ring) ≡ pages = omega arith in e)
 
-    pub laid_made : IsLaid (record { table = table; pool = pool; arena = arena; cache = cache; spaces = spaces })
+    pub laid_made : IsLaid (record { table = table; pool = pool; arena = arena; cache = cache; spaces = spaces; ranges = lists })
     laid_made = record {
       valid = m.valid;
       entries = none ∙ sym (ap (λ es. numbered 0 (rows_of es)) none);
@@ -353,4 +361,5 @@ module _ (table : PageMap) (pool : PoolPages) (arena : List (List ℕ)) (cache :
       zeroed = λ frame below. absurd (omega (arith, below, ap length none));
       within = λ place there. absurd (let isnt : entry_of table place ≡ None = ap (find place_cmp place) none in let both = rw isnt at there in cc);
       uncached = m.cache_is;
+      unlisted = listed_none lists [] table.buckets m.count m.nodes m.empty (λ space start process. refl);
     }

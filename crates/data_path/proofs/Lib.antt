@@ -9,3 +9,6 @@ pub mod Offloads
 pub mod Laying
 pub mod Opened
 pub mod Judging
+pub mod Protected
+pub mod Listing
+pub mod Exited

@@ -2,7 +2,7 @@
 use Rattle.std.proofs.Common.{◌≡◌, ◌≢◌, ℕ, zero, suc, ◌+◌, ◌-◌, ◌<◌, ◌≤◌, ◌==◌, ◌&&◌, if◌then◌else◌, Bool, true, false, not, cond, leb, inl, inr, is_some, List, [], ◌∷◌, ◌++◌, map, length, length-append, slice_get, Option, Some, None, refl, sym, ap, ◌∙◌, subst, arith}
 use Rattle.std.specs.Option.{option_or}
 use Rattle.std.specs.Map.{lookup}
-use Rattle.std.specs.FinMap.Entries.{find, where_key}
+use Rattle.std.specs.FinMap.Entries.{find, where_key, find-where_key}
 use Rattle.std.proofs.lemmas.Bool.{cases_Bool, cases_eq}
 use Rattle.std.proofs.lemmas.Bool.Decides.{nat_tests}
 use Rattle.std.proofs.lemmas.List.{length-map}
@@ -15,7 +15,7 @@ use Rattle.cl_types.specs.declared.page.Pte.{Pte}
 use Rattle.cl_types.specs.Bytes.{fresh_bytes}
 use Rattle.cl_types.specs.Config.{offload_pages}
 use Rattle.cl_types.specs.Places.{Place, place_cmp, is_process}
-use Rattle.cl_types.proofs.PlaceLemmas.{same_place, same_place-true, split_place}
+use Rattle.cl_types.proofs.PlaceLemmas.{place_exact, same_place, same_place-true, split_place}
 use Rattle.hash_buckets.specs.PageMap.{PageMap, entry_of}
 use Rattle.index_lists.specs.NodeLists.{has}
 use Rattle.page_arena.specs.Arena.{page_at as arena_page}
@@ -26,13 +26,15 @@ use Rattle.flat_model.specs.State.{held_from, opening, places_of}
 use Rattle.flat_model.specs.Step.{is_among}
 use Rattle.range_alloc.specs.Ranges.{AreRanges, IsIn, frame_at, span_at}
 use Rattle.range_alloc.proofs.Among.{among-true, among-page, among-none, among-rest}
-use Rattle.range_alloc.proofs.Entries.{frame_in, span_in}
+use Rattle.range_alloc.proofs.Entries.{frame_in, sorted_table, span_in}
 use Rattle.translate_cache.specs.Cached.{Cached, is_place}
 use Rattle.translate_cache.specs.Cached.{entry_of as cached_entry}
 use Rattle.data_path.specs.declared.store.PageStore.{PageStore}
 use Rattle.data_path.specs.Store.{pages_in, spans_in, backed, held_places, flat_of, memory_of, IsFit, IsWhole}
 use Rattle.data_path.specs.Laying.{SpannedPage, rows_of, spanned, rows_from, numbered, IsLaid}
 use Rattle.data_path.specs.Opened.{zeroed_page, ranges_from, opened_memory}
+use Rattle.data_path.proofs.Listing.{listed_others}
+use Rattle.data_path.proofs.Spans.{span_of, find-spans_in}
 use Rattle.data_path.proofs.Laying.{entry_for, keys-rows, keys-rows_from, has-range}
 use Rattle.flat_model.proofs.FreshLemmas.{length_fresh}
 
@@ -376,11 +378,26 @@ module _ (s : PageStore) (laid : IsLaid s) (rows : rows_of s.table.entries ≡ r
     cached = λ place pte noted. absurd (let none : cached_entry s.cache place ≡ None = ap (λ (c : Cached). lookup (is_place place) c.entries) laid.uncached in let both = sym none ∙ noted in cc);
   }
 
+  -- no entry is a process's
+  only_offloads : where_key place_cmp (λ place. not (is_process place.0)) s.table.entries ≡ s.table.entries
+  only_offloads = all_kept s.table.entries (subst AreHeld (sym keys_are) (are_held 0 s.spaces))
+
+  no_entry : (q : Place) → is_process q.0 ≡ true → entry_of s.table q ≡ None
+  no_entry q process =
+      ap (find place_cmp q) (sym only_offloads)
+      ∙ find-where_key place_cmp (λ place. not (is_process place.0)) q (λ x equal. ap (λ (y : Place). not (is_process y.0)) (sym (place_exact q x equal))) s.table.entries
+      ∙ rw process refl
+
+  none_begins : (space start : ℕ) → is_process space ≡ true → find place_cmp (space, start) (spans_in s.table.entries) ≡ None
+  none_begins space start process =
+      find-spans_in s.table.entries (space, start) (sorted_table s.table laid.valid) ∙ ap span_of (no_entry (space, start) process)
+
   pub whole_laid : IsWhole s
   whole_laid = record {
     fit = fit;
-    keys = ap keys (all_kept s.table.entries (subst AreHeld (sym keys_are) (are_held 0 s.spaces))) ∙ keys_are;
+    keys = ap keys only_offloads ∙ keys_are;
     held = λ place pte offload there. has_frame 0 (rows_from 0 s.spaces) place pte (ap (find place_cmp place) (sym entries_are) ∙ there);
+    listed = listed_others s.ranges (spans_in s.table.entries) s.table.buckets laid.unlisted none_begins;
   }
 
   pub memory_laid : (c : NodeConfig) → s.spaces ≡ map offload_pages c.offloads → s.table.buckets ≡ c.buckets → s.pool.pages ≡ c.pages → memory_of s ≡ opened_memory c

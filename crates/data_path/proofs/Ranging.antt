@@ -28,7 +28,9 @@ use Rattle.flat_model.proofs.LeastLemmas.{least_start_is_the_least}
 use Rattle.flat_model.specs.Rows.{keys}
 use Rattle.flat_model.specs.State.{Page, least, places, places_of}
 use Rattle.flat_model.specs.Step.{alloc, alloc_at, has_pages, is_among, is_range, mapped, unmapped, with_fresh}
+use Rattle.range_alloc.specs.RangeSets.{RangeSets}
 use Rattle.data_path.specs.declared.store.PageStore.{PageStore}
+use Rattle.data_path.specs.Listing.{AreListed}
 use Rattle.data_path.specs.Store.{page_in, pages_in, spans_in, backed, memory_of, IsFit, IsWhole}
 use Rattle.data_path.proofs.Keyed.{around_new}
 use Rattle.data_path.proofs.Pages.{pages_in-put, pages_in-other, backed-append}
@@ -94,7 +96,7 @@ offload_outside space start n place process offload = elim (cases_Bool (is_among
 ]
 
 -- the offloads' entries are the same in two tables that say the same of them
-offloads_same : (t u : PageMap) → T (is_sorted place_cmp t.entries) → T (is_sorted place_cmp u.entries) → ((q : Place) → is_process q.0 ≡ false → entry_of u q ≡ entry_of t q)
+pub offloads_same : (t u : PageMap) → T (is_sorted place_cmp t.entries) → T (is_sorted place_cmp u.entries) → ((q : Place) → is_process q.0 ≡ false → entry_of u q ≡ entry_of t q)
     → where_key place_cmp (λ place. not (is_process place.0)) u.entries ≡ where_key place_cmp (λ place. not (is_process place.0)) t.entries
 offloads_same t u left right same =
     same_entries place_cmp place_total place_exact (where_key place_cmp test u.entries) (where_key place_cmp test t.entries)
@@ -175,7 +177,13 @@ module _ (s : PageStore) (space start n : ℕ) (perm : Perm) (whole : IsFit s) (
   new = with_range s.table space start n perm
 
   -- and make one range
-  spans_joined : spans_in new.entries ≡ put place_cmp (space, start) n (spans_in s.table.entries)
+  -- no range began there
+  pub start_new : find place_cmp (space, start) (spans_in s.table.entries) ≡ None
+  start_new =
+      find-spans_in s.table.entries (space, start) (sorted s space start n perm whole some found)
+      ∙ ap span_of (unmapped_page s space start n perm whole some found (space, start) (among-page space start n start (omega arith) (omega (arith, some))))
+
+  pub spans_joined : spans_in new.entries ≡ put place_cmp (space, start) n (spans_in s.table.entries)
   spans_joined =
       let before = sorted s space start n perm whole some found in
       let after = sorted-with_range s.table space start n perm whole.valid in
@@ -216,17 +224,32 @@ module _ (s : PageStore) (space start n : ℕ) (perm : Perm) (whole : IsFit s) (
     ];
   }
 
+-- the lists may change
+fit_listed : (s : PageStore) (lists : RangeSets) → IsFit s → IsFit (record s { ranges = lists })
+fit_listed s lists fit = record {
+  valid = fit.valid;
+  ranges = fit.ranges;
+  taken = fit.taken;
+  named = fit.named;
+  arena = fit.arena;
+  sized = fit.sized;
+  zero = fit.zero;
+  cached = fit.cached;
+}
+
 -- a range of a process leaves the offloads' pages
 pub whole_joined : (s : PageStore) (space start n : ℕ) (perm : Perm) → IsWhole s → 0 < n → is_process space ≡ true → Some start ≡ least s.table.buckets (keys s.table.entries) space n
-    → IsFit (record s { table = with_range s.table space start n perm }) → IsWhole (record s { table = with_range s.table space start n perm })
-whole_joined s space start n perm whole some process found fit =
+    → IsFit (record s { table = with_range s.table space start n perm }) → (lists : RangeSets) → AreListed lists (put place_cmp (space, start) n (spans_in s.table.entries)) s.table.buckets
+    → IsWhole (record s { table = with_range s.table space start n perm; ranges = lists })
+whole_joined s space start n perm whole some process found fit lists listed =
     let new : PageMap = with_range s.table space start n perm in
     let away : (q : Place) → is_process q.0 ≡ false → entry_of new q ≡ entry_of s.table q = λ q offload.
     outside s space start n perm whole.fit some found q (offload_outside space start n q process offload) in
     record {
-      fit = fit;
+      fit = fit_listed (record s { table = new }) lists fit;
       keys = ap keys (offloads_same s.table new (sorted s space start n perm whole.fit some found) (sorted-with_range s.table space start n perm whole.fit.valid) away) ∙ whole.keys;
       held = λ q pte offload there. whole.held q pte offload (sym (away q offload) ∙ there);
+      listed = subst (λ (spans : List (Place × ℕ)). AreListed lists spans s.table.buckets) (sym (spans_joined s space start n perm whole.fit some found)) listed;
     }
 
 -- ---- a range leaves
@@ -278,7 +301,7 @@ module _ (table : PageMap) (space start : ℕ) (sorted : T (is_sorted place_cmp 
       one None = refl
       one (Some pte) = framed pte.frame
 
-pages_in-where : (arena : List (List ℕ)) (test : Place → Bool) (es : List (Place × Pte)) → pages_in arena (where_key place_cmp test es) ≡ where_key place_cmp test (pages_in arena es)
+pub pages_in-where : (arena : List (List ℕ)) (test : Place → Bool) (es : List (Place × Pte)) → pages_in arena (where_key place_cmp test es) ≡ where_key place_cmp test (pages_in arena es)
 pages_in-where arena test [] = refl
 pages_in-where arena test (e ∷ es) = elim (cases_Bool (test e.0)) [
   | inl t ↦ rw t (ap (λ l. (e.0, page_in arena e.1) ∷ l) (pages_in-where arena test es))
@@ -299,8 +322,19 @@ range_is s space start n whole some = ap (λ o. has_pages o n) (find-spans_in s.
       | inr f ↦ rw f refl
     ]
 
+-- a range that stands begins where the table says
+pub span_found : (s : PageStore) (space start n : ℕ) → IsFit s → 0 < n → span_at s.table (space, start) ≡ n → find place_cmp (space, start) (spans_in s.table.entries) ≡ Some n
+span_found s space start n whole some stands = find-spans_in s.table.entries (space, start) (sorted_table s.table whole.valid) ∙ by (entry_of s.table (space, start)) stands
+  where
+    by : (o : Option Pte) → (elim o [ None ↦ 0 | Some pte ↦ pte.span ]) ≡ n → span_of o ≡ Some n
+    by None is = absurd (omega (arith, is, some))
+    by (Some pte) is = elim (cases_Bool (eqb pte.span 0)) [
+      | inl t ↦ absurd (let zero : pte.span ≡ 0 = grind (arith, nat_tests) in omega (arith, zero, is, some))
+      | inr f ↦ rw f (ap (λ (k : ℕ). Some k) is)
+    ]
+
 module _ (s : PageStore) (space start n : ℕ) (whole : IsWhole s) (some : 0 < n) (process : is_process space ≡ true) (stands : span_at s.table (space, start) ≡ n)
-    (one two : PoolPages) (arena : List (List ℕ)) (cache : Cached) where
+    (one two : PoolPages) (arena : List (List ℕ)) (cache : Cached) (lists : RangeSets) where
   abbrev pub cut : PageMap
   cut = without_range s.table space start n
 
@@ -317,10 +351,11 @@ module _ (s : PageStore) (space start n : ℕ) (whole : IsWhole s) (some : 0 < n
     pub zero : AreZero arena (two.ring ++ two.clean)
     pub gone : (q : Place) → is_among space start n q ≡ true → cached_entry cache q ≡ None
     pub stays : (q : Place) → is_among space start n q ≡ false → cached_entry cache q ≡ cached_entry s.cache q
+    pub listed : AreListed lists (where_key place_cmp (λ place. not (eq_by_cmp place_cmp (space, start) place)) (spans_in s.table.entries)) s.table.buckets
 
   module _ (f : Freed) where
     abbrev pub freed_store : PageStore
-    freed_store = record { table = cut; pool = two; arena = arena; cache = cache; spaces = s.spaces }
+    freed_store = record { table = cut; pool = two; arena = arena; cache = cache; spaces = s.spaces; ranges = lists }
 
     before : T (is_sorted place_cmp s.table.entries)
     before = sorted_table s.table whole.fit.valid
@@ -373,13 +408,6 @@ module _ (s : PageStore) (space start n : ℕ) (whole : IsWhole s) (some : 0 < n
       ];
     }
 
-    pub whole_freed : IsWhole freed_store
-    whole_freed = record {
-      fit = fit_freed;
-      keys = ap keys (offloads_same s.table cut before after offloads) ∙ whole.keys;
-      held = λ q pte offload there. whole.held q pte offload (sym (offloads q offload) ∙ there);
-    }
-
     map_left : pages_in arena cut.entries ≡ where_key place_cmp (λ place. not (is_among space start n place)) (pages_in s.arena s.table.entries)
     map_left =
         pages_in-other s.arena arena cut.entries after (λ q pte frame there framed. same_bytes q frame.0 (ap frame_in there ∙ ap (option_map (λ (f : PageNo). f.0)) framed))
@@ -421,6 +449,14 @@ module _ (s : PageStore) (space start n : ℕ) (whole : IsWhole s) (some : 0 < n
                 | inr isnt ↦ rw (isnt, another) refl
               ]
         ]
+
+    pub whole_freed : IsWhole freed_store
+    whole_freed = record {
+      fit = fit_freed;
+      keys = ap keys (offloads_same s.table cut before after offloads) ∙ whole.keys;
+      held = λ q pte offload there. whole.held q pte offload (sym (offloads q offload) ∙ there);
+      listed = subst (λ (spans : List (Place × ℕ)). AreListed lists spans s.table.buckets) (sym spans_left) f.listed;
+    }
 
     pub memory_freed : memory_of freed_store ≡ unmapped (memory_of s) space start n
     memory_freed = λ i. record (memory_of s) { map = map_left i; ranges = spans_left i; pages = pages i }

@@ -12,6 +12,7 @@ use Rattle.page_arena.specs.Arena.{page_at}
 use Rattle.page_pool.specs.PoolPages.{free_list, AreZero, IsReady}
 use Rattle.flat_model.specs.State.{places_of}
 use Rattle.data_path.specs.declared.store.PageStore.{PageStore}
+use Rattle.data_path.specs.Listing.{AreListed}
 use Rattle.data_path.specs.Store.{no_entries}
 
 -- a page, and the number of pages of the range that begins there, 0 where none does
@@ -55,3 +56,4 @@ pub record IsLaid (s : PageStore) : Type 0 where
   pub zeroed : (frame : ℕ) → frame < length s.table.entries → page_at s.arena frame ≡ fresh_bytes
   pub within : (place : Place) → IsSome (entry_of s.table place) → place.1 < SPACE_PAGES
   pub uncached : s.cache ≡ no_entries
+  pub unlisted : AreListed s.ranges [] s.table.buckets

@@ -3,3 +3,6 @@ pub mod Access
 pub mod Spaces
 pub mod Opened
 pub mod Laying
+pub mod Protecting
+pub mod Listing
+pub mod Exiting

@@ -15,6 +15,7 @@ use Rattle.flat_model.specs.Rows.{keys}
 use Rattle.flat_model.specs.State.{FlatState, Page, places_of}
 use Rattle.data_path.specs.declared.create.TheConstants.{CACHED_ENTRIES}
 use Rattle.data_path.specs.declared.store.PageStore.{PageStore}
+use Rattle.data_path.specs.Listing.{AreListed}
 
 -- ---- what a store means
 -- a page by its entry: with the bytes of its frame, and fresh where it has none
@@ -90,10 +91,11 @@ pub record IsFit (s : PageStore) : Type 0 where
   pub zero : AreZero s.arena (s.pool.ring ++ s.pool.clean)
   pub cached : IsCached s.cache s.table
 
--- the store is whole: its parts fit, and the offloads have their pages
+-- the store is whole: its parts fit, the offloads have their pages, and the lists name the ranges of the processes
 pub record IsWhole (s : PageStore) : Type 0 where
   pub fit : IsFit s
   -- a page is a process's, or it is one of the offloads' pages
   pub keys : keys (where_key place_cmp (λ place. not (is_process place.0)) s.table.entries) ≡ held_places 0 s.spaces
   -- and then it has a frame
   pub held : (place : Place) (pte : Pte) → is_process place.0 ≡ false → entry_of s.table place ≡ Some pte → IsTrue (is_some pte.frame)
+  pub listed : AreListed s.ranges (spans_in s.table.entries) s.table.buckets

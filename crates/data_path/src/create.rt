@@ -19,6 +19,7 @@ use crate::store::PageStore;
 use cl_types::call::Perm;
 use cl_types::config::{NodeConfig, PageCounts, pages_of};
 use cl_types::items::NoMemory;
+use cl_types::limits::BUCKET_PAGES;
 use cl_types::numbers::{PageNo, Space16, Vpn};
 use cl_types::open_fault::OpenFault;
 use cl_types::page::Pte;
@@ -27,6 +28,7 @@ use flat_model::opening;
 use hash_buckets::Table;
 use page_arena::PageArena;
 use page_pool::Pool;
+use range_alloc::RangeLists;
 use std::alloc::Global;
 use std::marker::Brand;
 use std::sync::ledger::{Blank, Ledger};
@@ -101,12 +103,15 @@ impl PageStore {
             return Err(NoMemory);
         };
         let cache = Cache::create(alloc, CACHED_ENTRIES)?;
+        // Each range has a page in a bucket.
+        let ranges = RangeLists::create(alloc, BUCKET_PAGES * buckets)?;
         Ok(PageStore {
             table,
             pool,
             arena,
             cache,
             spaces: PageCounts::create(alloc),
+            ranges,
         })
     }
 

@@ -1,4 +1,4 @@
-//! An Alloc and a Free: ranges of pages join the store and leave it.
+//! An Alloc, a Free, a Protect and an Exit: ranges of pages join the store and leave it, and get another permission.
 
 ghost use Rattle.std.specs.Prelude.{◌≡◌, ℕ, ◌+◌, ◌<◌, ◌≤◌, ◌++◌, true, false, length, IsTrue, None};
 ghost use Rattle.index_lists.specs.NodeLists.{has};
@@ -9,14 +9,17 @@ ghost use Rattle.cl_types.specs.Places.{Place, is_process};
 ghost use Rattle.page_pool.specs.PoolPages.{free_list, AreZero, IsReady};
 ghost use Rattle.translate_cache.specs.Cached.{entry_of as cached_entry};
 ghost use Rattle.cl_types.specs.Ranges.{is_page_count};
-ghost use Rattle.flat_model.specs.Step.{alloc, free, is_among};
+ghost use Rattle.flat_model.specs.Step.{alloc, free, is_among, unmapped};
+ghost use Rattle.range_alloc.specs.Ranges.{span_at};
+ghost use Rattle.data_path.specs.Exiting.{exit};
+ghost use Rattle.data_path.specs.Protecting.{protect};
 
 use crate::store::{PageStore, page_of};
 use cl_types::call::Perm;
 use cl_types::limits::PAGE_BYTES;
 use cl_types::numbers::{Addr, Space16, Vpn};
 use cl_types::reply::Refusal;
-use range_alloc::{map_range, unmap_range};
+use range_alloc::{map_range, protect_range, span, unmap_range};
 
 impl PageStore {
     ghost use Rattle.data_path.specs.Store.{memory_of, IsWhole};
@@ -37,7 +40,10 @@ impl PageStore {
         ensures spaces { self.new.spaces ≡ self.old.spaces }
     {
         match map_range(&mut self.table, space, pages, perm) {
-            Some(start) => Ok(Addr(u32::from(start.0) * PAGE_BYTES)),
+            Some(start) => {
+                self.ranges.add(space, start, pages);
+                Ok(Addr(u32::from(start.0) * PAGE_BYTES))
+            }
             None => Err(Refusal::NoRange),
         }
     }
@@ -59,11 +65,77 @@ impl PageStore {
         ensures spaces { self.new.spaces ≡ self.old.spaces }
     {
         let start = page_of(addr);
-        if !unmap_range(&mut self.table, &mut self.pool, space, start, pages) {
+        if span(&self.table, space, start) != pages {
             return Err(Refusal::NoMapping);
         }
+        self.take_out(space, start, pages);
+        Ok(())
+    }
+
+    /// Takes all ranges of a process out, with their pages: an Exit.
+    pub fn exit_space(&mut self, space: Space16)
+        requires process { IsTrue (is_process space.0) }
+        requires whole { IsWhole self.old }
+        requires ready { IsReady self.old.pool }
+        ensures memory { memory_of self.new ≡ (exit (memory_of self.old) space.0).state }
+        ensures whole { IsWhole self.new }
+        ensures ready { IsReady self.new.pool }
+        ensures spaces { self.new.spaces ≡ self.old.spaces }
+    {
+        while let Some(first) = self.ranges.first(space) {
+            let pages = span(&self.table, space, first);
+            self.take_out(space, first, pages);
+        }
+    }
+
+    // Takes the range of a process out that begins here, with its pages.
+    fn take_out(&mut self, space: Space16, start: Vpn, pages: u16)
+        requires stands { span_at self.old.table (space.0, start.0) ≡ pages }
+        requires pages { IsTrue (is_page_count pages) }
+        requires process { IsTrue (is_process space.0) }
+        requires whole { IsWhole self.old }
+        requires ready { IsReady self.old.pool }
+        ensures memory { memory_of self.new ≡ unmapped (memory_of self.old) space.0 start.0 pages }
+        ensures whole { IsWhole self.new }
+        ensures ready { IsReady self.new.pool }
+        ensures spaces { self.new.spaces ≡ self.old.spaces }
+    {
+        // The cache first: at no time does it have an entry that the table has no more.
         self.forget(space, start, pages);
+        unmap_range(&mut self.table, &mut self.pool, space, start, pages);
+        self.ranges.drop_range(space, start);
         self.refill(pages);
+    }
+
+    /// Gives the pages of a range of a process this permission, where one of this start and this number of pages is
+    /// allocated: a Protect.
+    pub fn protect_part(
+        &mut self,
+        space: Space16,
+        addr: Addr,
+        pages: u16,
+        perm: Perm,
+    ) -> Result<(), Refusal>
+        requires good { addr.0 < ADDRESS_END }
+        requires pages { IsTrue (is_page_count pages) }
+        requires process { IsTrue (is_process space.0) }
+        requires whole { IsWhole self.old }
+        requires ready { IsReady self.old.pool }
+        ensures reply { reply_in (λ done. Nothing) result
+            ≡ (protect (memory_of self.old) space.0 addr pages perm).reply }
+        ensures memory { memory_of self.new
+            ≡ (protect (memory_of self.old) space.0 addr pages perm).state }
+        ensures whole { IsWhole self.new }
+        ensures ready { IsReady self.new.pool }
+        ensures spaces { self.new.spaces ≡ self.old.spaces }
+    {
+        let first = page_of(addr);
+        if span(&self.table, space, first) != pages {
+            return Err(Refusal::NoMapping);
+        }
+        // The cache first: at no time does it have an old permission where the table has the new one.
+        self.forget(space, first, pages);
+        protect_range(&mut self.table, space, first, pages, perm);
         Ok(())
     }
 

@@ -18,6 +18,7 @@ use cl_types::steps::Steps;
 use hash_buckets::Table;
 use page_arena::PageArena;
 use page_pool::Pool;
+use range_alloc::RangeLists;
 use std::sync::ledger::Ledger;
 use translate_cache::Cache;
 
@@ -35,6 +36,8 @@ pub struct PageStore {
     pub cache: Cache,
     /// How many pages each offload has.
     pub spaces: PageCounts,
+    /// The ranges of each process, in the order in which they were allocated.
+    pub ranges: RangeLists,
 }
 
 /// The number of a good address's page.

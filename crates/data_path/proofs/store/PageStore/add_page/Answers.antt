@@ -36,7 +36,7 @@ placed c =
 pub returns-clause-laid : goal.returns-clause-laid
 returns-clause-laid c =
     let s = c.args.self.now in
-    subst (λ (t : PageStore). IsLaid (record { table = c.insert.new.self; pool = c.take_frame-frame.new.self.pool; arena = c.take_frame-frame.new.self.arena; cache = t.cache; spaces = t.spaces })) (sym c.take_frame-frame.ensures.rest)
+    subst (λ (t : PageStore). IsLaid (record { table = c.insert.new.self; pool = c.take_frame-frame.new.self.pool; arena = c.take_frame-frame.new.self.arena; cache = t.cache; spaces = t.spaces; ranges = t.ranges })) (sym c.take_frame-frame.ensures.rest)
     (laid_placed s (c.args.space.0, c.args.vpn.0) c.args.span c.take_frame-frame.result c.insert.new.self c.take_frame-frame.new.self.pool c.take_frame-frame.new.self.arena (placed c))
 
 pub returns-clause-rows : goal.returns-clause-rows

@@ -1,4 +1,5 @@
 use Rattle.std.proofs.Common.{rules, length, ◌+◌, ◌≡◌, ◌≤◌, ◌∙◌, [], ◌∷◌, ◌++◌, map, take, arith, ap}
+use Rattle.std.proofs.lemmas.Result.{err_from_is_err_and}
 use Rattle.cl_types.specs.Config.{offload_pages}
 use Rattle.cl_types.specs.declared.config.OffloadConfig.TheVariants.{Kv}
 use Rattle.flat_model.specs.Objects.{empty_object}
@@ -56,6 +57,11 @@ loop-offload-preserved c =
       pages = added.pages ∙ before.pages;
       ring = added.capacity ∙ before.ring;
     }
+
+pub returns-in_err-add_offload-clause-fault : goal.returns-in_err-add_offload-clause-fault
+returns-in_err-add_offload-clause-fault c =
+    let exit = err_from_is_err_and c.from_residual-in_err-add_offload.result c.from_residual-in_err-add_offload.ensures.1 in
+    rw (c.in_ok-judge.ensures.good, exit.1) exit.2
 
 pub returns-clause-memory : goal.returns-clause-memory
 returns-clause-memory c =

@@ -45,7 +45,7 @@ returns-clause-framed g c =
       valid = subst IsValid table c.set_frame.ensures.valid;
       cached = cached_put k (record pte { frame = Some frame }) s.cache c.note.new.self s.table c.requires.fit.cached c.note.ensures.here c.note.ensures.others;
     } in
-    subst (λ t. IsFramed s (record { table = t; pool = c.refill.new.self; arena = c.refill.new.arena; cache = c.note.new.self; spaces = s.spaces }) k pte frame) (sym table)
+    subst (λ t. IsFramed s (record { table = t; pool = c.refill.new.self; arena = c.refill.new.arena; cache = c.note.new.self; spaces = s.spaces; ranges = s.ranges }) k pte frame) (sym table)
     (is_framed s k pte frame c.take.new.self c.refill.new.self c.refill.new.arena c.note.new.self given)
 
 pub returns-clause-fit : goal.returns-clause-fit
@@ -71,7 +71,7 @@ returns-clause-fit g c =
       valid = subst IsValid table c.set_frame.ensures.valid;
       cached = cached_put k (record pte { frame = Some frame }) s.cache c.note.new.self s.table c.requires.fit.cached c.note.ensures.here c.note.ensures.others;
     } in
-    subst (λ t. IsFit (record { table = t; pool = c.refill.new.self; arena = c.refill.new.arena; cache = c.note.new.self; spaces = s.spaces })) (sym table)
+    subst (λ t. IsFit (record { table = t; pool = c.refill.new.self; arena = c.refill.new.arena; cache = c.note.new.self; spaces = s.spaces; ranges = s.ranges })) (sym table)
     (fit_framed s k pte frame c.take.new.self c.refill.new.self c.refill.new.arena c.note.new.self given)
 
 pub returns-clause-whole : goal.returns-clause-whole
@@ -97,5 +97,5 @@ returns-clause-whole g c whole =
       valid = subst IsValid table c.set_frame.ensures.valid;
       cached = cached_put k (record pte { frame = Some frame }) s.cache c.note.new.self s.table c.requires.fit.cached c.note.ensures.here c.note.ensures.others;
     } in
-    subst (λ t. IsWhole (record { table = t; pool = c.refill.new.self; arena = c.refill.new.arena; cache = c.note.new.self; spaces = s.spaces })) (sym table)
+    subst (λ t. IsWhole (record { table = t; pool = c.refill.new.self; arena = c.refill.new.arena; cache = c.note.new.self; spaces = s.spaces; ranges = s.ranges })) (sym table)
     (whole_framed s k pte frame c.take.new.self c.refill.new.self c.refill.new.arena c.note.new.self given whole)

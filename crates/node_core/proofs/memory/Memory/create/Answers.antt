@@ -1,5 +1,6 @@
 -- The store of an opening, with the objects in its spaces.
-use Rattle.std.proofs.Common.{rules, ◌≡◌, IfErr, map, ap, ◌∙◌}
+use Rattle.std.proofs.Common.{◌≡◌, IfErr, map, ap, ◌∙◌}
+use Rattle.std.proofs.lemmas.Result.{err_from_is_err_and}
 use Rattle.data_path.specs.Store.{flat_of, memory_of}
 use Rattle.flat_model.specs.Objects.{empty_object}
 use Rattle.cl_types.specs.declared.open_fault.OpenFault.TheVariants.{NoMemory}
@@ -15,7 +16,8 @@ create-requires-2 c = are_offloads c.args.config.now (opens _ c.in_ok-store.stor
 pub returns-in_err-host-clause-fault : goal.returns-in_err-host-clause-fault
 returns-in_err-host-clause-fault c =
     let none = opens _ c.in_ok-store.store (open_fault c.args.config.now) c.in_ok-store.ensures.fault in
-    let lacking : IfErr c.from_residual-in_err-host.result (λ fault. fault ≡ NoMemory) = search rules in
+    let exit = err_from_is_err_and c.from_residual-in_err-host.result c.from_residual-in_err-host.ensures.1 in
+    let lacking : IfErr c.from_residual-in_err-host.result (λ fault. fault ≡ NoMemory) = rw exit.1 exit.2 in
     none_told _ (open_fault c.args.config.now) none lacking
 
 pub invariant_of-result : goal.invariant_of-result
