@@ -1,11 +1,12 @@
 //! A test of `word_atomics`: atomics on one word, one after the other.
 
-ghost use Rattle.std.specs.Prelude.{◌≡◌, ◌<◌, IfOk};
+ghost use Rattle.std.specs.Prelude.{◌≡◌, ◌<◌};
 ghost use Rattle.data_path.specs.Store.{IsWhole};
 ghost use Rattle.page_pool.specs.PoolPages.{IsReady};
 
+use crate::store::opened;
 use cl_types::call::{AtomicOp, Perm};
-use cl_types::config::{NodeConfig, OffloadList};
+use cl_types::config::OffloadList;
 use cl_types::numbers::{Addr, Space16};
 use cl_types::open_fault::OpenFault;
 use cl_types::reply::Refusal;
@@ -14,27 +15,30 @@ use data_path::PageStore;
 use std::alloc::Global;
 use std::marker::Brand;
 use std::sync::ledger::{Blank, Ledger};
-use std::test::Fail;
 use word_atomics::apply;
 
 const SPACE: Space16 = Space16(1);
 
-/// The store of a node of 16 pages, with no offload.
-fn opened(alloc: Global) -> Result<PageStore, OpenFault>
-    ensures whole { IfOk result IsWhole }
-    ensures ready { IfOk result (λ store. IsReady store.pool) }
+/// Takes a lock, adds to its word past the greatest one, and changes a page that isn't mapped.
+fn apply_thrice<A: Ledger, B: Ledger>(
+    store: &mut PageStore,
+    reads: &mut Steps<A>,
+    takes: &mut Steps<B>,
+) -> [Result<u64, Refusal>; 3]
+    requires whole { IsWhole store.old }
+    requires ready { IsReady store.old.pool }
 {
-    let config = NodeConfig {
-        pages: 16,
-        buckets: 8,
-        ring: 4,
-        retry: 4,
-        offloads: OffloadList::create(alloc),
-    };
-    PageStore::create(alloc, &config)
+    let word = Addr(0x1008);
+    let lock = AtomicOp::Lock;
+    let add = AtomicOp::Add { n: u64::MAX };
+    [
+        apply(store, SPACE, word, lock, reads, takes),
+        apply(store, SPACE, word, add, reads, takes),
+        apply(store, SPACE, Addr(0x2000), add, reads, takes),
+    ]
 }
 
-/// Takes a lock, adds to its word past the greatest one, and changes a page that isn't mapped.
+/// The same in a new store, of which a page is mapped.
 fn words<A: Ledger, B: Ledger>(
     alloc: Global,
     reads: Blank,
@@ -49,21 +53,13 @@ fn words<A: Ledger, B: Ledger>(
 {
     let mut reads = Steps::<A>::create(reads);
     let mut takes = Steps::<B>::create(takes);
-    let mut store = opened(alloc)?;
+    let mut store = opened(alloc, 16, OffloadList::create(alloc))?;
     let _ = store.alloc_range(SPACE, 1, Perm::ReadWrite);
-    let word = Addr(0x1008);
-    let lock = AtomicOp::Lock;
-    let add = AtomicOp::Add { n: u64::MAX };
-    Ok([
-        apply(&mut store, SPACE, word, lock, &mut reads, &mut takes),
-        apply(&mut store, SPACE, word, add, &mut reads, &mut takes),
-        apply(&mut store, SPACE, Addr(0x2000), add, &mut reads, &mut takes),
-    ])
+    Ok(apply_thrice(&mut store, &mut reads, &mut takes))
 }
 
 #[test]
-fn an_atomic_gives_the_word_before_it(rt: HostRuntime) -> Result<(), Fail> {
+fn an_atomic_gives_the_word_before_it(rt: HostRuntime) {
     let told = words::<Brand, Brand>(rt.alloc(), Blank::new(1), Blank::new(1));
-    assert_eq!(rt; told, Ok([Ok(0), Ok(1), Err(Refusal::NoMapping)]));
-    Ok(())
+    assert!(rt; told == Ok([Ok(0), Ok(1), Err(Refusal::NoMapping)]));
 }

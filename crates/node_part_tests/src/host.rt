@@ -1,5 +1,9 @@
 //! A test of `offload_host`: the worked steps of a key-value store of two records, over a space in memory.
 
+ghost use Rattle.std.specs.Prelude.{◌≡◌, ◌<◌, [], ◌∷◌, IfSome, length, slice_get};
+ghost use Rattle.cl_types.specs.declared.config.OffloadConfig.TheVariants.{Kv};
+ghost use Rattle.offload_host.specs.Held.{HoldsObject};
+
 use cl_types::config::{OffloadConfig, OffloadList};
 use cl_types::items::NoMemory;
 use cl_types::limits::PART_BYTES;
@@ -7,10 +11,12 @@ use cl_types::reply::Refusal;
 use cl_types::space::MemorySpace;
 use offload_host::Host;
 use std::alloc::Global;
-use std::test::Fail;
 
-/// Operations with their bytes, one after the other, and what each answers.
-const STEPS: [(u8, &[u8], Result<&[u8], Refusal>); 15] = [
+/// An operation with its bytes, and what it answers.
+type Step<'a> = (u8, &'a [u8], Result<&'a [u8], Refusal>);
+
+/// Operations, one after the other.
+const STEPS: &[Step] = &[
     (1, b"\x01av", Ok(b"")),
     (1, b"\x01bw", Ok(b"")),
     (1, b"\x01cx", Err(Refusal::ObjectFull)),
@@ -28,28 +34,52 @@ const STEPS: [(u8, &[u8], Result<&[u8], Refusal>); 15] = [
     (5, b"\x01a", Err(Refusal::BadOp)),
 ];
 
-/// The first step that is answered otherwise, by its place from 0.
-fn first_answered_otherwise(alloc: Global) -> Result<Option<usize>, NoMemory> {
-    let mut offloads = OffloadList::create(alloc);
-    offloads.push(OffloadConfig::Kv { records: 2 })?;
-    let mut host = Host::create(alloc, &offloads)?;
-    let mut space = MemorySpace::create(alloc, host.pages(0))?;
-    host.init(0, &mut space);
+/// Whether an operation of the first offload answers so.
+fn answers(host: &mut Host, space: &mut MemorySpace, step: &Step) -> bool
+    requires exists { 0 < length host.old }
+    requires object { IfSome (slice_get host.old 0) (λ offload. HoldsObject offload space.old) }
+    ensures host { host.new ≡ host.old }
+    ensures object { IfSome (slice_get host.old 0) (λ offload. HoldsObject offload space.new) }
+{
+    let (op, bytes, want) = *step;
     let mut out = [0; PART_BYTES as usize];
-    for (at, (op, bytes, want)) in STEPS.iter().enumerate() {
-        let is_wanted = match host.call(0, *op, bytes, &mut space, &mut out) {
-            Ok(len) => *want == Ok(&out[..len]),
-            Err(refusal) => *want == Err(refusal),
-        };
-        if !is_wanted {
-            return Ok(Some(at));
+    match host.call(0, op, bytes, space, &mut out) {
+        Ok(len) => want == Ok(&out[..len]),
+        Err(refusal) => want == Err(refusal),
+    }
+}
+
+/// The first operation that answers otherwise, by its place from 0.
+fn first_off(host: &mut Host, space: &mut MemorySpace, steps: &[Step]) -> Option<usize>
+    requires exists { 0 < length host.old }
+    requires object { IfSome (slice_get host.old 0) (λ offload. HoldsObject offload space.old) }
+{
+    for (at, step) in steps.iter().enumerate() {
+        if !answers(host, space, step) {
+            return Some(at);
         }
     }
-    Ok(None)
+    None
+}
+
+/// The same of a new host, over a new space.
+fn first_off_of_new(alloc: Global, offloads: &OffloadList) -> Result<Option<usize>, NoMemory>
+    requires { offloads.now ≡ Kv 2 ∷ [] }
+{
+    let mut host = Host::create(alloc, offloads)?;
+    let mut space = MemorySpace::create(alloc, host.pages(0))?;
+    host.init(0, &mut space);
+    Ok(first_off(&mut host, &mut space, STEPS))
+}
+
+/// The same of one with a store of two records.
+fn first_off_of_store(alloc: Global) -> Result<Option<usize>, NoMemory> {
+    let mut offloads = OffloadList::create(alloc);
+    offloads.push(OffloadConfig::Kv { records: 2 })?;
+    first_off_of_new(alloc, &offloads)
 }
 
 #[test]
-fn a_store_of_two_records_goes_through_the_worked_steps(rt: HostRuntime) -> Result<(), Fail> {
-    assert_eq!(rt; first_answered_otherwise(rt.alloc())?, None);
-    Ok(())
+fn a_store_of_two_records_goes_through_the_worked_steps(rt: HostRuntime) {
+    assert!(rt; first_off_of_store(rt.alloc()) == Ok(None));
 }

@@ -10,6 +10,8 @@ mod buckets;
 #[cfg(test)]
 mod cache;
 #[cfg(test)]
+mod exit;
+#[cfg(test)]
 mod host;
 #[cfg(test)]
 mod kv;
@@ -18,7 +20,13 @@ mod lists;
 #[cfg(test)]
 mod pool;
 #[cfg(test)]
+mod protect;
+#[cfg(test)]
+mod ranges;
+#[cfg(test)]
 mod retry;
+#[cfg(test)]
+mod rows;
 #[cfg(test)]
 mod store;
 #[cfg(test)]

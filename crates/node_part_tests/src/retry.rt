@@ -8,7 +8,6 @@ use cl_types::numbers::ClientNo;
 use cl_types::small_reply::SmallReply;
 use retry_buffer::{Retry, Young};
 use std::alloc::Global;
-use std::test::Fail;
 
 const CLIENT: ClientNo = ClientNo(7);
 
@@ -30,14 +29,13 @@ fn told(alloc: Global) -> Result<([Result<(), Young>; 2], [Option<u8>; 2]), NoMe
 }
 
 #[test]
-fn a_full_buffer_has_room_once_its_record_is_old(rt: HostRuntime) -> Result<(), Fail> {
+fn a_full_buffer_has_room_once_its_record_is_old(rt: HostRuntime) {
     let young = Young {
         oldest: 0,
         now: 399,
     };
     let want = ([Err(young), Ok(())], [Some(4), None]);
-    assert_eq!(rt; told(rt.alloc())?, want);
-    Ok(())
+    assert!(rt; told(rt.alloc()) == Ok(want));
 }
 
 /// Notes a reply at moment 0, and tells whether its name was new and there was room.
@@ -53,27 +51,46 @@ fn notes(retry: &mut Retry, orig: u64) -> bool
     true
 }
 
-/// Whether a buffer takes 65,536 replies whose ids rise, and then finds each of them 200 times.
+/// Whether a buffer takes 65,536 replies whose ids rise.
+fn takes_each(retry: &mut Retry) -> bool
+    requires { AreNotedBy 0 retry.old.records }
+{
+    for orig in 1..=65_536 {
+        if !notes(retry, orig) {
+            return false;
+        }
+    }
+    true
+}
+
+/// Whether it has each of them.
+fn has_each(retry: &Retry) -> bool {
+    for orig in 1..=65_536 {
+        if retry.look(CLIENT, Kind::Write, orig).is_none() {
+            return false;
+        }
+    }
+    true
+}
+
+/// Whether it has each of them 200 times over.
+fn has_each_long(retry: &Retry) -> bool {
+    for _ in 0..200 {
+        if !has_each(retry) {
+            return false;
+        }
+    }
+    true
+}
+
+/// Whether a new buffer takes 65,536 replies whose ids rise, and then finds each of them 200 times.
 fn finds_each(alloc: Global) -> Result<bool, NoMemory> {
     let mut retry = Retry::create(alloc, 65_536)?;
-    for orig in 1..=65_536 {
-        if !notes(&mut retry, orig) {
-            return Ok(false);
-        }
-    }
-    for _ in 0..200 {
-        for orig in 1..=65_536 {
-            if retry.look(CLIENT, Kind::Write, orig).is_none() {
-                return Ok(false);
-            }
-        }
-    }
-    Ok(true)
+    Ok(takes_each(&mut retry) && has_each_long(&retry))
 }
 
 // No clause says how long a chain gets. With all records in one chain this runs past the time that a test has.
 #[test]
-fn replies_whose_ids_rise_are_found_in_time(rt: HostRuntime) -> Result<(), Fail> {
-    assert!(rt; finds_each(rt.alloc())?);
-    Ok(())
+fn replies_whose_ids_rise_are_found_in_time(rt: HostRuntime) {
+    assert!(rt; finds_each(rt.alloc()) == Ok(true));
 }

@@ -14,13 +14,16 @@ use data_path::PageStore;
 use std::alloc::Global;
 use std::marker::Brand;
 use std::sync::ledger::{Blank, Ledger};
-use std::test::Fail;
 
 // A process.
 const SPACE: Space16 = Space16(1);
 
 /// The store of a node of so many pages, with these offloads.
-fn opened(alloc: Global, pages: u64, offloads: OffloadList) -> Result<PageStore, OpenFault>
+pub(crate) fn opened(
+    alloc: Global,
+    pages: u64,
+    offloads: OffloadList,
+) -> Result<PageStore, OpenFault>
     ensures whole { IfOk result IsWhole }
     ensures ready { IfOk result (λ store. IsReady store.pool) }
 {
@@ -42,9 +45,8 @@ fn free_beside_a_store(alloc: Global) -> Result<u32, OpenFault> {
 }
 
 #[test]
-fn a_store_of_two_records_has_two_pages(rt: HostRuntime) -> Result<(), Fail> {
-    assert_eq!(rt; free_beside_a_store(rt.alloc()), Ok(1));
-    Ok(())
+fn a_store_of_two_records_has_two_pages(rt: HostRuntime) {
+    assert!(rt; free_beside_a_store(rt.alloc()) == Ok(1));
 }
 
 /// What is told of calls on a store of one physical page.
@@ -64,6 +66,98 @@ struct Told {
     again: Result<(), Refusal>,
 }
 
+/// The start of a page that is read only, a write to it, and one to a page that isn't mapped.
+fn refused<A: Ledger, B: Ledger>(
+    store: &mut PageStore,
+    reads: &mut Steps<A>,
+    takes: &mut Steps<B>,
+) -> (Result<Addr, Refusal>, [Result<(), Refusal>; 2])
+    requires whole { IsWhole store.old }
+    requires ready { IsReady store.old.pool }
+    ensures whole { IsWhole store.new }
+    ensures ready { IsReady store.new.pool }
+{
+    let start = store.alloc_range(SPACE, 1, Perm::ReadOnly);
+    let denied = store.write_part(SPACE, Addr(0x1000), b"a", reads, takes);
+    let unmapped = store.write_part(SPACE, Addr(0x4000), b"a", reads, takes);
+    (start, [denied, unmapped])
+}
+
+/// Writes to the two pages of a range.
+fn written<A: Ledger, B: Ledger>(
+    store: &mut PageStore,
+    reads: &mut Steps<A>,
+    takes: &mut Steps<B>,
+) -> [Result<(), Refusal>; 2]
+    requires whole { IsWhole store.old }
+    requires ready { IsReady store.old.pool }
+    ensures whole { IsWhole store.new }
+    ensures ready { IsReady store.new.pool }
+{
+    let _ = store.alloc_range(SPACE, 2, Perm::ReadWrite);
+    [
+        store.write_part(SPACE, Addr(0x2000), b"abc", reads, takes),
+        store.write_part(SPACE, Addr(0x3000), b"a", reads, takes),
+    ]
+}
+
+/// What is read of the first of them.
+fn read<A: Ledger>(store: &mut PageStore, reads: &mut Steps<A>) -> [u8; 4]
+    requires whole { IsWhole store.old }
+    requires ready { IsReady store.old.pool }
+    ensures whole { IsWhole store.new }
+    ensures ready { IsReady store.new.pool }
+{
+    let mut read = [7; 4];
+    let _ = store.read_part(SPACE, Addr(0x2000), &mut read, reads);
+    read
+}
+
+/// Their range is freed as one of one page, and as one of two.
+fn freed(store: &mut PageStore) -> [Result<(), Refusal>; 2]
+    requires whole { IsWhole store.old }
+    requires ready { IsReady store.old.pool }
+    ensures whole { IsWhole store.new }
+    ensures ready { IsReady store.new.pool }
+{
+    [
+        store.free_range(SPACE, Addr(0x2000), 1),
+        store.free_range(SPACE, Addr(0x2000), 2),
+    ]
+}
+
+/// Another write, once they are mapped again.
+fn written_again<A: Ledger, B: Ledger>(
+    store: &mut PageStore,
+    reads: &mut Steps<A>,
+    takes: &mut Steps<B>,
+) -> Result<(), Refusal>
+    requires whole { IsWhole store.old }
+    requires ready { IsReady store.old.pool }
+{
+    let _ = store.alloc_range(SPACE, 2, Perm::ReadWrite);
+    store.write_part(SPACE, Addr(0x3000), b"a", reads, takes)
+}
+
+fn show<A: Ledger, B: Ledger>(
+    store: &mut PageStore,
+    reads: &mut Steps<A>,
+    takes: &mut Steps<B>,
+) -> Told
+    requires whole { IsWhole store.old }
+    requires ready { IsReady store.old.pool }
+{
+    let (start, refused) = refused(store, reads, takes);
+    Told {
+        start,
+        refused,
+        written: written(store, reads, takes),
+        read: read(store, reads),
+        freed: freed(store),
+        again: written_again(store, reads, takes),
+    }
+}
+
 fn answers<A: Ledger, B: Ledger>(
     alloc: Global,
     reads: Blank,
@@ -79,32 +173,11 @@ fn answers<A: Ledger, B: Ledger>(
     let mut reads = Steps::<A>::create(reads);
     let mut takes = Steps::<B>::create(takes);
     let mut store = opened(alloc, 1, OffloadList::create(alloc))?;
-    let start = store.alloc_range(SPACE, 1, Perm::ReadOnly);
-    let _ = store.alloc_range(SPACE, 2, Perm::ReadWrite);
-    let denied = store.write_part(SPACE, Addr(0x1000), b"a", &mut reads, &mut takes);
-    let unmapped = store.write_part(SPACE, Addr(0x4000), b"a", &mut reads, &mut takes);
-    let done = store.write_part(SPACE, Addr(0x2000), b"abc", &mut reads, &mut takes);
-    let full = store.write_part(SPACE, Addr(0x3000), b"a", &mut reads, &mut takes);
-    let mut read = [7; 4];
-    let _ = store.read_part(SPACE, Addr(0x2000), &mut read, &mut reads);
-    let other = store.free_range(SPACE, Addr(0x2000), 1);
-    let freed = store.free_range(SPACE, Addr(0x2000), 2);
-    let _ = store.alloc_range(SPACE, 2, Perm::ReadWrite);
-    let again = store.write_part(SPACE, Addr(0x3000), b"a", &mut reads, &mut takes);
-    Ok(Told {
-        start,
-        refused: [denied, unmapped],
-        written: [done, full],
-        read,
-        freed: [other, freed],
-        again,
-    })
+    Ok(show(&mut store, &mut reads, &mut takes))
 }
 
 #[test]
-fn a_read_gives_what_was_written_and_each_refusal_has_its_cause(
-    rt: HostRuntime,
-) -> Result<(), Fail> {
+fn a_read_gives_what_was_written_and_each_refusal_has_its_cause(rt: HostRuntime) {
     let told = answers::<Brand, Brand>(rt.alloc(), Blank::new(1), Blank::new(1));
     let want = Told {
         start: Ok(Addr(0x1000)),
@@ -114,6 +187,5 @@ fn a_read_gives_what_was_written_and_each_refusal_has_its_cause(
         freed: [Err(Refusal::NoMapping), Ok(())],
         again: Ok(()),
     };
-    assert_eq!(rt; told, Ok(want));
-    Ok(())
+    assert!(rt; told == Ok(want));
 }

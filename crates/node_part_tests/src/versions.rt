@@ -9,7 +9,6 @@ use cl_types::reply::Refusal;
 use cl_types::space::MemorySpace;
 use mv_offload::{Mv, VERSION_BYTES};
 use std::alloc::Global;
-use std::test::Fail;
 
 const MV: Mv = Mv {
     objects: 2,
@@ -31,7 +30,7 @@ use Step::{Append, Create, Latest, Read};
 type Told = Result<(u32, &'static [u8]), Refusal>;
 
 /// Calls, one after the other, and what each answers.
-const STEPS: [(Step, Told); 14] = [
+const STEPS: &[(Step, Told)] = &[
     (Create, Ok((1, b""))),
     (Append(1, b"aa"), Ok((1, b""))),
     (Append(1, b"b"), Ok((2, b""))),
@@ -68,25 +67,38 @@ fn answer(
     }
 }
 
-/// The first step that is answered otherwise, by its place from 0.
-fn first_answered_otherwise(alloc: Global) -> Result<Option<usize>, NoMemory> {
-    let mut space = MemorySpace::create(alloc, 2)?;
-    MV.init(&mut space);
+/// Whether a step is answered so.
+fn answers(space: &mut MemorySpace, step: Step, want: Told) -> bool
+    requires { IsStore 2 3 space.old }
+    ensures { IsStore 2 3 space.new }
+{
     let mut out = [0; PART_BYTES as usize];
-    for (at, (step, want)) in STEPS.iter().enumerate() {
-        let is_wanted = match answer(&mut space, *step, &mut out) {
-            Ok((number, len)) => *want == Ok((number, &out[..len])),
-            Err(refusal) => *want == Err(refusal),
-        };
-        if !is_wanted {
-            return Ok(Some(at));
+    match answer(space, step, &mut out) {
+        Ok((number, len)) => want == Ok((number, &out[..len])),
+        Err(refusal) => want == Err(refusal),
+    }
+}
+
+/// The first step that is answered otherwise, by its place from 0.
+fn first_off(space: &mut MemorySpace, steps: &[(Step, Told)]) -> Option<usize>
+    requires { IsStore 2 3 space.old }
+{
+    for (at, (step, want)) in steps.iter().enumerate() {
+        if !answers(space, *step, *want) {
+            return Some(at);
         }
     }
-    Ok(None)
+    None
+}
+
+/// The same in a new space.
+fn first_off_of_new(alloc: Global) -> Result<Option<usize>, NoMemory> {
+    let mut space = MemorySpace::create(alloc, 2)?;
+    MV.init(&mut space);
+    Ok(first_off(&mut space, STEPS))
 }
 
 #[test]
-fn two_objects_of_three_versions_go_through_the_worked_steps(rt: HostRuntime) -> Result<(), Fail> {
-    assert_eq!(rt; first_answered_otherwise(rt.alloc())?, None);
-    Ok(())
+fn two_objects_of_three_versions_go_through_the_worked_steps(rt: HostRuntime) {
+    assert!(rt; first_off_of_new(rt.alloc()) == Ok(None));
 }
