@@ -27,6 +27,7 @@ use Rattle.client_retry.specs.Flights.{Flights}
 use Rattle.call_cut.proofs.PieceLemmas.{few_pieces, pieces_next}
 use Rattle.client_core.specs.Answers.{issue_state}
 use Rattle.client_model.specs.Apart.{AreApart}
+use Rattle.client_core.specs.declared.ids.TheConstants.{LAST_FIRST_ID}
 use Rattle.client_core.specs.Valid.{AreRising, IsHeld, IsValid, name_of}
 use Rattle.client_core.specs.Held.{Held, Holding, fence_first_in, new_held}
 use Rattle.client_core.specs.Fields.{call_in, flown_among, flown_of, standing_by, standing_in, state_of, IsFit, IsSound}
@@ -201,7 +202,7 @@ module _ (no : ClientNo) (pid issued sendings : ℕ) (calls : Holding) (f : Flig
           so_many : (a b d : ℕ) → a ≡ b + 1 → b + d ≤ issued → a + d ≤ issued + 1
           so_many a b d x y = omega arith
 
-          budget : (a b c d e : ℕ) → a ≡ b + c → c ≡ 4 * d → d ≡ e → e ≤ 65 → sendings + b ≤ 260 * issued → sendings + a ≤ 260 * (issued + 1)
+          budget : (a b c d e : ℕ) → a ≡ b + c → c ≡ 4 * d → d ≡ e → e ≤ 65 → sendings + b ≤ LAST_FIRST_ID + 260 * issued → sendings + a ≤ LAST_FIRST_ID + 260 * (issued + 1)
           budget a b c d e x y z u v = omega arith
 
       step : Step no pid issued sendings calls f last sound new (issued + 1) sendings calls1 f
@@ -277,7 +278,7 @@ fence_step_of c pid issued sendings h hs es x f last sound fence x_is = record {
           room _ _ _ _ _ a b sound.valid.counted;
       apart = subst AreApart (origs_are state f.flown sound.flight ∙ sym (origs_are new f.flown flown1)) sound.valid.apart;
       ids = subst (Each (IsId sendings)) (origs_are state f.flown sound.flight ∙ sym (origs_are new f.flown flown1)) sound.valid.ids;
-      sendings = subst (λ ps. sendings + sum_by left ps ≤ 260 * issued) (sym parts_are) sound.valid.sendings;
+      sendings = subst (λ ps. sendings + sum_by left ps ≤ LAST_FIRST_ID + 260 * issued) (sym parts_are) sound.valid.sendings;
     }
       where
         room : (a b c d most : ℕ) → a ≡ b + 1 → c ≡ d → suc d + b ≤ most → c + a ≤ most

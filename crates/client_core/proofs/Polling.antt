@@ -17,6 +17,7 @@ use Rattle.client_retry.specs.declared.due.Due.{Due}
 use Rattle.client_retry.specs.declared.due.Due.TheVariants as due
 use Rattle.client_retry.specs.Flights.{Flights, has_orig, has_part, with_flown, without, sent_again}
 use Rattle.client_retry.specs.Rules.{due_again, due_first}
+use Rattle.client_core.specs.declared.ids.TheConstants.{LAST_FIRST_ID}
 use Rattle.client_core.specs.declared.answers.Poll.{Poll}
 use Rattle.client_core.specs.declared.answers.Poll.TheVariants as poll
 use Rattle.client_core.specs.Answers.{poll_answer, poll_bytes, frame_bytes}
@@ -278,7 +279,7 @@ module _ (no : ClientNo) (pid issued sendings : ℕ) (calls : Holding) (f : Flig
   pub few_ids : issued < 2 ^ 32 → sendings + 1 < 2 ^ 64
   few_ids small = go (sum_by left (parts_of (map (call_in f.flown) calls.held))) sound.valid.sendings
     where
-      go : (n : ℕ) → sendings + n ≤ 260 * issued → sendings + 1 < 2 ^ 64
+      go : (n : ℕ) → sendings + n ≤ LAST_FIRST_ID + 260 * issued → sendings + 1 < 2 ^ 64
       go n h = omega arith
 
 pub nothing_due : (ss : List Sending) (t : ℕ) → ((part : Part) (orig first : ℕ) → due_first (find (is_old_flown t) (map flown_of ss)) (due_again (find (is_due_flown t) (map flown_of ss))) ≡ due.GiveUp part orig first → ⊥) →

@@ -5,10 +5,16 @@ use Rattle.cl_types.specs.declared.call.Call.{Call}
 use Rattle.cl_types.specs.declared.request.Request.{Request}
 use Rattle.cl_types.specs.declared.reply.Part.{Part}
 use Rattle.cl_types.specs.declared.limits.TheConstants.{HELD_CALLS, LAST_RESEND, TIMEOUT}
+use Rattle.cl_types.specs.declared.numbers.ClientNo.{ClientNo}
+use Rattle.client_core.specs.declared.ids.TheConstants.{LAST_FIRST_ID}
 use Rattle.client_model.specs.Apart.{AreApart}
 use Rattle.frame_model.specs.Faults.{first_fault}
 use Rattle.client_model.specs.Issue.{call_faults}
-use Rattle.client_model.specs.Client.{ClientState, ClientCall, ClientPart, Standing, Unsent, InFlight, Over, Sending, parts_of, parts_named, flights, finished, held}
+use Rattle.client_model.specs.Client.{ClientState, ClientCall, ClientPart, Standing, Unsent, InFlight, Over, Sending, parts_of, parts_named, flights, finished, held, new_client}
+
+-- a client that has issued no call, whose first sending has this id
+abbrev pub client_from : ClientNo → (pid first : ℕ) → ClientState
+client_from c pid first = record (new_client c pid) { sendings = first - 1 }
 
 -- each number is above n and above those before it, and none above the last
 abbrev pub AreRising : ℕ → ℕ → List ℕ → Type 0
@@ -47,4 +53,4 @@ pub record IsValid (s : ClientState) : Type 0 where
   pub apart : AreApart (origs s)
   pub ids : Each (λ id. (1 ≤ id) × (id ≤ s.sendings)) (origs s)
   -- a call has at most 65 parts, and each is sent at most four times, so no id runs out
-  pub sendings : s.sendings + sum_by (λ p. sendings_left p.standing) (parts_of s.calls) ≤ 260 * s.issued
+  pub sendings : s.sendings + sum_by (λ p. sendings_left p.standing) (parts_of s.calls) ≤ LAST_FIRST_ID + 260 * s.issued

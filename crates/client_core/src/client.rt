@@ -5,7 +5,8 @@ ghost use Rattle.cl_types.specs.declared.numbers.TheConstants.{LAST_PID};
 ghost use Rattle.client_model.specs.Client.{ClientState, after_done, held, new_client, ready_at as ready_at_of};
 ghost use Rattle.client_model.specs.Issue.{issue_fault};
 ghost use Rattle.client_core.specs.Answers.{done_answer, issue_answer, issue_state};
-ghost use Rattle.client_core.specs.Valid.{IsValid};
+ghost use Rattle.client_core.specs.Valid.{IsValid, client_from};
+ghost use Rattle.client_core.specs.declared.ids.TheConstants.{LAST_FIRST_ID};
 
 mod hear;
 mod poll;
@@ -58,11 +59,30 @@ impl Client {
         ensures new { IfOk result (λ client. client ≡ new_client no pid) }
         ensures valid { IfOk result IsValid }
     {
+        Client::create_from(alloc, no, pid, 1)
+    }
+
+    /// A client that has issued no call, whose first sending has the id `first`. Where a client number is used again at a
+    /// node, by a later run of a program, the ids of that run have to lie above all earlier ones under this number, and the
+    /// caller has to see to it: a node answers a request whose id it has seen as it did then, and doesn't execute it. A
+    /// clock that never falls and gives more than the sendings made so far gives such ids. `NoMemory` comes where an
+    /// allocation was refused.
+    pub fn create_from(
+        alloc: Global,
+        no: ClientNo,
+        pid: Pid,
+        first: u64,
+    ) -> Result<Client, NoMemory>
+        requires first { 1 ≤ first }
+        requires room { first ≤ LAST_FIRST_ID }
+        ensures new { IfOk result (λ client. client ≡ client_from no pid first) }
+        ensures valid { IfOk result IsValid }
+    {
         Ok(Client {
             no,
             pid,
             issued: 0,
-            sendings: 0,
+            sendings: first - 1,
             calls: Calls::create(alloc)?,
             flight: Flight::create(alloc)?,
             last: 0,

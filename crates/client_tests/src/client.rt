@@ -4,7 +4,7 @@ use cl_types::call::{AtomicOp, Call, Perm};
 use cl_types::items::{Bytes, NoMemory};
 use cl_types::numbers::{Addr, CallNo, ClientNo, try_pid};
 use cl_types::reply::{Answer, Part, Refusal, Value};
-use client_core::{Client, Heard, IssueFault, Poll};
+use client_core::{Client, Heard, IssueFault, LAST_FIRST_ID, Poll};
 use std::alloc::Global;
 use std::test::Fail;
 
@@ -263,13 +263,27 @@ fn first_off(
     Ok(None)
 }
 
-/// The same of a new client of process 1. No other function owns a client, since each that drops one takes the prover long.
-fn first_off_of_new(alloc: Global, steps: &[Step]) -> Result<Option<usize>, NoMemory> {
+/// The same of a client of process 1 whose ids begin at a number, or a new one where none is given. No other function owns a
+/// client, since each that drops one takes the prover long.
+fn first_off_from(
+    alloc: Global,
+    first: Option<u64>,
+    steps: &[Step],
+) -> Result<Option<usize>, NoMemory> {
     let Some(pid) = try_pid(1) else {
         return Err(NoMemory);
     };
-    let mut client = Client::create(alloc, ClientNo(1), pid)?;
+    let mut client = match first {
+        Some(first) if 1 <= first && first <= LAST_FIRST_ID => {
+            Client::create_from(alloc, ClientNo(1), pid, first)?
+        }
+        _ => Client::create(alloc, ClientNo(1), pid)?,
+    };
     first_off(alloc, &mut client, steps)
+}
+
+fn first_off_of_new(alloc: Global, steps: &[Step]) -> Result<Option<usize>, NoMemory> {
+    first_off_from(alloc, None, steps)
 }
 
 /// The frame of an Alloc, and what stood behind it.
@@ -419,5 +433,22 @@ const EMPTY: &[Step] = &[
 #[test]
 fn a_client_is_empty_until_it_holds_a_call(rt: HostRuntime) -> Result<(), Fail> {
     assert_eq!(rt; first_off_of_new(rt.alloc(), EMPTY)?, None);
+    Ok(())
+}
+
+/// The ids of a client that begin at 100: a call is sent under 100 and again under 101, and a reply under an id of an earlier
+/// run of its number is late.
+const FROM_100: &[Step] = &[
+    Step::Issue(Asked::Add(0x1000), 1),
+    Step::Send(0, 39, (1, 0), 100),
+    Step::Again(100, 39, (1, 0), 101, 100),
+    Step::Hear(ATOMIC, (1, 1), &[0; 9], Hears::Late),
+    Step::Hear(ATOMIC, (101, 100), &[0; 9], Hears::Ended(1, 0)),
+    Step::Done(1, Answer::Done(Value::Word(0)), &[]),
+];
+
+#[test]
+fn ids_begin_at_the_number_given(rt: HostRuntime) -> Result<(), Fail> {
+    assert_eq!(rt; first_off_from(rt.alloc(), Some(100), FROM_100)?, None);
     Ok(())
 }

@@ -18,6 +18,7 @@ use Rattle.client_model.specs.Cut.{cut}
 use Rattle.client_model.specs.Order.{is_fence}
 use Rattle.client_model.specs.Issue.{call_faults, issue_fault}
 use Rattle.frame_model.specs.Faults.{first_fault}
+use Rattle.client_core.specs.declared.ids.TheConstants.{LAST_FIRST_ID}
 use Rattle.client_core.specs.Answers.{issue_state}
 use Rattle.client_core.specs.Valid.{IsValid}
 use Rattle.client_core.proofs.Issuing.{good_parts}
@@ -259,7 +260,7 @@ abbrev pub IsBusy : Polled → Type 0
 IsBusy Idles = ⊥
 IsBusy other = Unit {0}
 
-pub polled_steps : (p : Polled) (s : ClientState) (t calls : ℕ) → IsOf s p → IsBusy p → s.last ≤ t → (after_poll t p s).sendings ≤ 260 * (after_poll t p s).issued
+pub polled_steps : (p : Polled) (s : ClientState) (t calls : ℕ) → IsOf s p → IsBusy p → s.last ≤ t → (after_poll t p s).sendings ≤ LAST_FIRST_ID + 260 * (after_poll t p s).issued
     → steps_left (after_poll t p s) calls < steps_left s calls
 polled_steps (GivesUp g) s t calls of busy later within =
     let fewer = over_ends (given_up t) (given_up_adds t) (λ orig first last. refl) g (at_moment t s) of in
@@ -272,8 +273,8 @@ polled_steps (Sends (o ∷ [])) s t calls of busy later within =
     let kept = changed_calls o.part (gone_out t o) (gone_out_adds t o) s.calls in
     sent_more (2 ^ 64 - 1) s.last t s.issued calls s.sendings _ _ kept later within
   where
-    sent_more : (m last t issued calls sendings new old : ℕ) → new ≤ old → last ≤ t → sendings + 1 ≤ 260 * issued
-        → (m - t) + (260 * (issued + calls) - (sendings + 1)) + new + 131 * calls < (m - last) + (260 * (issued + calls) - sendings) + old + 131 * calls
+    sent_more : (m last t issued calls sendings new old : ℕ) → new ≤ old → last ≤ t → sendings + 1 ≤ LAST_FIRST_ID + 260 * issued
+        → (m - t) + (LAST_FIRST_ID + 260 * (issued + calls) - (sendings + 1)) + new + 131 * calls < (m - last) + (LAST_FIRST_ID + 260 * (issued + calls) - sendings) + old + 131 * calls
     sent_more m last t issued calls sendings new old kept later within = omega (arith, kept, later, within)
 polled_steps (Sends (o ∷ u ∷ os)) s t calls of busy later within = absurd of
 polled_steps Idles s t calls of busy later within = absurd busy
@@ -301,7 +302,7 @@ issued_steps k s calls few =
     sum_more (2 ^ 64 - 1 - s.last) s.issued calls s.sendings _ _ _ _ (length (parts_named (s.issued + 1) k)) (length (cut k)) all one parts as_many few
   where
     sum_more : (m issued calls sendings new old one parts n count : ℕ) → new ≡ old + one → one ≡ 1 + parts + 0 → parts ≡ 2 * n → n ≡ count → count ≤ 65
-        → m + (260 * (issued + 1 + calls) - sendings) + new + 131 * calls ≤ m + (260 * (issued + (calls + 1)) - sendings) + old + 131 * (calls + 1)
+        → m + (LAST_FIRST_ID + 260 * (issued + 1 + calls) - sendings) + new + 131 * calls ≤ m + (LAST_FIRST_ID + 260 * (issued + (calls + 1)) - sendings) + old + 131 * (calls + 1)
     sum_more m issued calls sendings new old one parts n count all first second same few = omega (arith, all, first, second, few)
 
 no_fault_behind : (b : Bool) (fault : IssueFault) (rest : Option IssueFault) → cond b (Some fault) rest ≡ None → rest ≡ None
@@ -309,7 +310,7 @@ no_fault_behind true fault rest is = absurd cc
 no_fault_behind false fault rest is = is
 
 fewer_to_come : (m issued sendings calls steps : ℕ)
-    → m + (260 * (issued + calls) - sendings) + steps + 131 * calls ≤ m + (260 * (issued + (calls + 1)) - sendings) + steps + 131 * (calls + 1)
+    → m + (LAST_FIRST_ID + 260 * (issued + calls) - sendings) + steps + 131 * calls ≤ m + (LAST_FIRST_ID + 260 * (issued + (calls + 1)) - sendings) + steps + 131 * (calls + 1)
 fewer_to_come m issued sendings calls steps = omega arith
 
 -- a call of the script was tried
@@ -326,6 +327,6 @@ tried_steps k s new calls before is as_many = subst (λ n. steps_left new calls 
 pub busy_steps : (s new : ClientState) (t calls : ℕ) → IsBusy (client.poll s t) → new ≡ after_poll t (client.poll s t) s → s.last ≤ t → IsValid new
     → steps_left new calls < steps_left s calls
 busy_steps s new t calls busy is later valid =
-    let within : new.sendings ≤ 260 * new.issued = (let all = valid.sendings in omega (arith, all)) in
+    let within : new.sendings ≤ LAST_FIRST_ID + 260 * new.issued = (let all = valid.sendings in omega (arith, all)) in
     subst (λ x. steps_left x calls < steps_left s calls) (sym is)
-    (polled_steps (client.poll s t) s t calls (polls_of s t) busy later (subst (λ x. x.sendings ≤ 260 * x.issued) is within))
+    (polled_steps (client.poll s t) s t calls (polls_of s t) busy later (subst (λ x. x.sendings ≤ LAST_FIRST_ID + 260 * x.issued) is within))
