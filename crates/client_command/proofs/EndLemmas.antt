@@ -15,8 +15,9 @@ use Rattle.texts.specs.Text.{Text}
 use Rattle.wire_loop.specs.Driving.{DriveStop, AllEnded, Stalled, WireFailed}
 use Rattle.wire_loop.specs.Drives.{BreaksOff, Drives}
 use Rattle.wire_loop.specs.Serves.{Told, told_of}
+use Rattle.wire_loop.specs.Wired.{Wired}
 use Rattle.client_command.specs.Lines.{EndsStalled, EndsWireFault, stalled_line}
-use Rattle.client_command.specs.Ends.{BindsAny, BrokenOff, CountsStop, DrivenTo, Ends, FaultLine, LastLine, Outside, Task, Unbound}
+use Rattle.client_command.specs.Ends.{BindsAny, BrokenOff, CountsStop, DrivenTo, ClientEnds, FaultLine, LastLine, Task, Unbound}
 use Rattle.client_command.specs.declared.ends.ClientEnd.{ClientEnd}
 use Rattle.client_command.specs.declared.ends.ClientEnd.TheVariants as end
 
@@ -49,13 +50,13 @@ told_same coming coming' sent sent' moments is_coming is_sent =
     λ i. record { coming = is_coming i; sent = is_sent i; moments = moments }
 
 -- the wire was given this port, and what it tells stands
-pub record Found (port : ℕ) (before between : Outside) : Type 0 where
+pub record Found (port : ℕ) (before between : Wired) : Type 0 where
   pub bound : BindsAny (bound.Port port) before between
   pub told : between.told ≡ before.told
   pub good : between.wire_faults ≡ after_good before.wire_faults
 
 -- ---- driving behind the bind
-pub driven_to : (t : Task) (before between after : Outside) (port : ℕ) (first client : ClientState) (printed : Option (List ℕ))
+pub driven_to : (t : Task) (before between after : Wired) (port : ℕ) (first client : ClientState) (printed : Option (List ℕ))
     (stop : DriveStop) (node : Peer) → Found port before between → first ≡ t.client → node ≡ t.node
     → Drives first client t.script node between.told after.told before.written printed stop
     → CountsStop stop between.wire_faults after.wire_faults → after.last_bind ≡ between.last_bind
@@ -70,7 +71,7 @@ driven_to t before between after port first client printed stop node found is_fi
   wire = good_before_stop stop before.wire_faults between.wire_faults after.wire_faults found.good counts;
 }
 
-pub broken_off : (t : Task) (before between after : Outside) (port : ℕ) (first : ClientState) (node : Peer)
+pub broken_off : (t : Task) (before between after : Wired) (port : ℕ) (first : ClientState) (node : Peer)
     → Found port before between → first ≡ t.client → node ≡ t.node
     → BreaksOff first t.script node between.told after.told before.written after.written
     → NoneFailed between.wire_faults after.wire_faults → after.last_bind ≡ between.last_bind
@@ -87,10 +88,10 @@ broken_off t before between after port first node found is_first is_node breaks 
 
 -- ---- the last line
 -- a client stalled
-pub stalled_ends : (t : Task) (before after : Outside) (client : ClientState) (moment turns : ℕ) (printed : Option (List ℕ))
+pub stalled_ends : (t : Task) (before after : Wired) (client : ClientState) (moment turns : ℕ) (printed : Option (List ℕ))
     (faults : Faults) → DrivenTo t client (Stalled moment) before after printed → NoneFailed before.write_faults faults
     → turns ≡ STALL_TURNS → (ended : ClientEnd)
-    → EndsStalled (stalled_line moment turns) printed after.written faults after.write_faults ended → Ends t before after ended
+    → EndsStalled (stalled_line moment turns) printed after.written faults after.write_faults ended → ClientEnds t before after ended
 stalled_ends t before after client moment turns printed faults driven none are end.Stalled says =
     let line = subst (λ (n : ℕ). Added (stalled_line moment n) printed after.written) are says.0 in
     (client, moment, record { printed = printed; driven = driven; line = line; sink = says.1 ∙ none })
@@ -106,9 +107,9 @@ stalled_ends t before after client moment turns printed faults driven none are (
 stalled_ends t before after client moment turns printed faults driven none are end.WireFault says = absurd says
 
 -- the wire failed in a turn
-pub fault_ends : (t : Task) (before after : Outside) (client : ClientState) (printed : Option (List ℕ)) (faults : Faults)
+pub fault_ends : (t : Task) (before after : Wired) (client : ClientState) (printed : Option (List ℕ)) (faults : Faults)
     → DrivenTo t client WireFailed before after printed → NoneFailed before.write_faults faults → (ended : ClientEnd)
-    → EndsWireFault printed after.written faults after.write_faults ended → Ends t before after ended
+    → EndsWireFault printed after.written faults after.write_faults ended → ClientEnds t before after ended
 fault_ends t before after client printed faults driven none end.WireFault says =
     inr (client, record { printed = printed; driven = driven; line = says.0; sink = says.1 ∙ none })
 fault_ends t before after client printed faults driven none end.WriteFault says =
@@ -118,8 +119,8 @@ fault_ends t before after client printed faults driven none end.Stalled says = a
 fault_ends t before after client printed faults driven none end.NoMemory says = absurd says
 
 -- the bind failed
-pub unbound_ends : (t : Task) (before after : Outside) → Unbound before after → (ended : ClientEnd)
-    → EndsWireFault before.written after.written before.write_faults after.write_faults ended → Ends t before after ended
+pub unbound_ends : (t : Task) (before after : Wired) → Unbound before after → (ended : ClientEnd)
+    → EndsWireFault before.written after.written before.write_faults after.write_faults ended → ClientEnds t before after ended
 unbound_ends t before after unbound end.WireFault says = inl (record { unbound = unbound; line = says.0; sink = says.1 })
 unbound_ends t before after unbound end.WriteFault says = (FaultLine unbound says.0, says.1)
 unbound_ends t before after unbound (end.Driven other) says = absurd says

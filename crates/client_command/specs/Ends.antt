@@ -6,7 +6,6 @@ use Rattle.std.specs.declared.option.Option.TheVariants.{Some}
 use Rattle.cl_outside.specs.Counts.{LastFailed, NoneFailed}
 use Rattle.cl_outside.specs.Loops.{WroteFront}
 use Rattle.cl_outside.specs.Told.{Added}
-use Rattle.cl_outside.specs.Wire.{Binding}
 use Rattle.cl_outside.specs.declared.faults.Faults.{Faults}
 use Rattle.cl_outside.specs.declared.wire.Bound.{Bound}
 use Rattle.cl_outside.specs.declared.wire.Bound.TheVariants as bound
@@ -18,8 +17,8 @@ use Rattle.client_model.specs.Client.{ClientState, new_client}
 use Rattle.texts.specs.Text.{Text}
 use Rattle.wire_loop.specs.Driving.{DriveStop, AllEnded, Stalled, WireFailed}
 use Rattle.wire_loop.specs.Drives.{BreaksOff, Drives}
-use Rattle.wire_loop.specs.Serves.{Told}
-use Rattle.client_command.specs.Lines.{stalled_line, wire_fault_line}
+use Rattle.wire_loop.specs.Wired.{Wired, wire_fault_line}
+use Rattle.client_command.specs.Lines.{stalled_line}
 use Rattle.client_command.specs.declared.ends.ClientEnd.{ClientEnd}
 use Rattle.client_command.specs.declared.ends.ClientEnd.TheVariants as end
 
@@ -42,27 +41,8 @@ task_of port number process script = record {
   script = script;
 }
 
--- what wire, clock and sink tell, and which calls of wire and sink failed
-pub record Outside : Type 0 where
-  -- what is to come and was sent, and what the clock is to answer
-  pub told : Told
-  pub last_bind : Option (Option Binding)
-  pub wire_faults : Faults
-  pub written : Option (List ℕ)
-  pub write_faults : Faults
-
--- the same, of these
-abbrev pub outside : Told → Option (Option Binding) → Faults → Option (List ℕ) → Faults → Outside
-outside told last_bind wire_faults written write_faults = record {
-  told = told;
-  last_bind = last_bind;
-  wire_faults = wire_faults;
-  written = written;
-  write_faults = write_faults;
-}
-
 -- the last bind asked for any free port, and was answered so
-abbrev pub BindsAny : Bound → Outside → Outside → Type 0
+abbrev pub BindsAny : Bound → Wired → Wired → Type 0
 BindsAny answer before after =
     after.last_bind ≡ option_map (λ _. Some (record { asked = 0; answer = answer })) before.last_bind
 
@@ -80,13 +60,13 @@ CountsStop other before now = NoneFailed before now
 
 -- ---- how far a client comes
 -- the bind failed: nothing was received or sent, and the clock was not asked
-pub record Unbound (before after : Outside) : Type 0 where
+pub record Unbound (before after : Wired) : Type 0 where
   pub bound : BindsAny bound.Failed before after
   pub passed : after.told ≡ before.told
   pub wire : LastFailed before.wire_faults after.wire_faults
 
 -- on a free port the client was driven to this stop: it is now this one, and its turns wrote the text up to here
-pub record DrivenTo (t : Task) (client : ClientState) (stop : DriveStop) (before after : Outside)
+pub record DrivenTo (t : Task) (client : ClientState) (stop : DriveStop) (before after : Wired)
     (printed : Option (List ℕ)) : Type 0 where
   pub port : ℕ
   pub bound : BindsAny (bound.Port port) before after
@@ -95,7 +75,7 @@ pub record DrivenTo (t : Task) (client : ClientState) (stop : DriveStop) (before
   pub wire : CountsStop stop before.wire_faults after.wire_faults
 
 -- on a free port the driving broke off in a turn, of whose text a front was written
-pub record BrokenOff (t : Task) (before after : Outside) : Type 0 where
+pub record BrokenOff (t : Task) (before after : Wired) : Type 0 where
   pub port : ℕ
   pub bound : BindsAny (bound.Port port) before after
   pub breaks : BreaksOff t.client t.script t.node before.told after.told before.written after.written
@@ -103,21 +83,21 @@ pub record BrokenOff (t : Task) (before after : Outside) : Type 0 where
 
 -- ---- a whole text
 -- the client was driven to this stop, and all of its text was written, and the stop's line after it
-pub record StopsAt (t : Task) (client : ClientState) (stop : DriveStop) (before after : Outside) : Type 0 where
+pub record StopsAt (t : Task) (client : ClientState) (stop : DriveStop) (before after : Wired) : Type 0 where
   pub printed : Option (List ℕ)
   pub driven : DrivenTo t client stop before after printed
   pub line : Added (last_line stop) printed after.written
   pub sink : NoneFailed before.write_faults after.write_faults
 
 -- the bind failed, and the line of that was written
-pub record StopsUnbound (before after : Outside) : Type 0 where
+pub record StopsUnbound (before after : Wired) : Type 0 where
   pub unbound : Unbound before after
   pub line : Added wire_fault_line before.written after.written
   pub sink : NoneFailed before.write_faults after.write_faults
 
 -- ---- a text that was cut
 -- a front of the text was written, up to somewhere in this
-pub data CutIn (t : Task) (before after : Outside) : Type 0 where
+pub data CutIn (t : Task) (before after : Wired) : Type 0 where
   -- the line of a bind that failed
   FaultLine : (unbound : Unbound before after) → (front : WroteFront wire_fault_line before.written after.written)
       → CutIn t before after
@@ -129,18 +109,18 @@ pub data CutIn (t : Task) (before after : Outside) : Type 0 where
       → CutIn t before after
 
 -- an allocation was refused: nothing was done, or the text was cut, and no call failed
-pub record OutOfMemory (t : Task) (before after : Outside) : Type 0 where
+pub record OutOfMemory (t : Task) (before after : Wired) : Type 0 where
   pub came : (after ≡ before) ⊎ CutIn t before after
   pub wire : NoneFailed before.wire_faults after.wire_faults
   pub sink : NoneFailed before.write_faults after.write_faults
 
 -- ---- the end
 -- a client was driven so, from what wire, clock and sink showed before to what they show after
-abbrev pub Ends : Task → Outside → Outside → ClientEnd → Type 0
-Ends t before after (end.Driven client) = StopsAt t client AllEnded before after
-Ends t before after end.Stalled =
+abbrev pub ClientEnds : Task → Wired → Wired → ClientEnd → Type 0
+ClientEnds t before after (end.Driven client) = StopsAt t client AllEnded before after
+ClientEnds t before after end.Stalled =
     (client : ClientState) × (moment : ℕ) × StopsAt t client (Stalled moment) before after
-Ends t before after end.WireFault =
+ClientEnds t before after end.WireFault =
     StopsUnbound before after ⊎ ((client : ClientState) × StopsAt t client WireFailed before after)
-Ends t before after end.WriteFault = CutIn t before after × LastFailed before.write_faults after.write_faults
-Ends t before after end.NoMemory = OutOfMemory t before after
+ClientEnds t before after end.WriteFault = CutIn t before after × LastFailed before.write_faults after.write_faults
+ClientEnds t before after end.NoMemory = OutOfMemory t before after

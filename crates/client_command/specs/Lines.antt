@@ -6,12 +6,9 @@ use Rattle.cl_outside.specs.Loops.{WroteFront}
 use Rattle.cl_outside.specs.Told.{Added}
 use Rattle.cl_outside.specs.declared.faults.Faults.{Faults}
 use Rattle.texts.specs.Text.{Text, line_of}
+use Rattle.wire_loop.specs.Wired.{wire_fault_line}
 use Rattle.client_command.specs.declared.ends.ClientEnd.{ClientEnd}
 use Rattle.client_command.specs.declared.ends.ClientEnd.TheVariants as end
-
--- the line of a failure of the wire
-abbrev pub wire_fault_line : Text
-wire_fault_line = line_of (codes "wire fault" ∷ [])
 
 -- the line of a client that stalled at this moment, after so many turns in a row that were fruitless
 abbrev pub stalled_line : (moment turns : ℕ) → Text

@@ -3,7 +3,8 @@
 ghost use Rattle.std.specs.Prelude.{◌≡◌, ◌≤◌, length};
 ghost use Rattle.cl_types.specs.declared.limits.TheConstants.{INPUT_LINES};
 ghost use Rattle.wire_loop.specs.Serves.{told_of};
-ghost use Rattle.client_command.specs.Ends.{Ends, node_at, outside, task_of};
+ghost use Rattle.wire_loop.specs.Wired.{wired};
+ghost use Rattle.client_command.specs.Ends.{ClientEnds, node_at, task_of};
 
 use crate::ends::ClientEnd;
 use crate::lines::{end_stalled, end_wire_fault};
@@ -41,10 +42,10 @@ pub fn drive_client<W: Wire, C: Clock, K: Sink>(
     sink: &mut K,
 ) -> ClientEnd
     requires few { length script.now.calls ≤ INPUT_LINES }
-    ensures { Ends (task_of node_port no pid script.now.calls)
-        (outside (told_of (W.coming wire.old) (W.sent wire.old) (C.moments clock.old))
+    ensures { ClientEnds (task_of node_port no pid script.now.calls)
+        (wired (told_of (W.coming wire.old) (W.sent wire.old) (C.moments clock.old))
         (W.last_bind wire.old) (W.faults wire.old) (K.written sink.old) (K.faults sink.old))
-        (outside (told_of (W.coming wire.new) (W.sent wire.new) (C.moments clock.new))
+        (wired (told_of (W.coming wire.new) (W.sent wire.new) (C.moments clock.new))
         (W.last_bind wire.new) (W.faults wire.new) (K.written sink.new) (K.faults sink.new))
         result }
 {

@@ -2,8 +2,7 @@
 //! binds any free port, drives, and writes a last line where the client stalled or the wire failed.
 //!
 //! A contract says, by how the command ended, what was bound, received, sent and written, and which
-//! object's last call failed. The turns are those of `wire_loop`. The top call does not offer the
-//! command yet.
+//! object's last call failed. The turns are those of `wire_loop`.
 #![tactic(auto)]
 
 mod command;

@@ -15,10 +15,11 @@ use Rattle.texts.specs.Texts.{open_fault_line}
 use Rattle.wire_loop.specs.Serves.{CountsServe, Serves, Told, told_of}
 use Rattle.wire_loop.specs.declared.serving.ServeEnd.{ServeEnd}
 use Rattle.wire_loop.specs.declared.serving.ServeEnd.TheVariants as serve_end
+use Rattle.wire_loop.specs.Wired.{Wired, wired, wire_fault_line}
 use Rattle.cl_outside.specs.Wire.{Message}
 use Rattle.cl_outside.specs.declared.wire.Bound.TheVariants.{Port, Failed}
-use Rattle.node_command.specs.Lines.{end_line, port_line, wire_fault_line}
-use Rattle.node_command.specs.Ends.{Binds, EndsWhole, end_by, node_of, numbers, outside, IsEndAt, NodeEnds, NodeNumbers, Outside, Reaches, Stage, NodeRefused, BindFailed, PortBound, ServingEnded, line_at, text_before}
+use Rattle.node_command.specs.Lines.{end_line, port_line}
+use Rattle.node_command.specs.Ends.{Binds, EndsWhole, end_by, node_of, numbers, IsEndAt, NodeEnds, NodeNumbers, Reaches, Stage, NodeRefused, BindFailed, PortBound, ServingEnded, line_at, text_before}
 use Rattle.node_command.specs.Writing.{EndsFrom, EndsOn, EndsRefused, IsBound, WritesLine, cut_end, is_memory}
 use Rattle.node_command.specs.declared.node_end.Cut.{Cut}
 use Rattle.node_command.specs.declared.node_end.Cut.TheVariants as cut
@@ -48,7 +49,7 @@ err_is (Err other) error is = ap Err is
 
 -- ---- a line of a stage
 -- the end where the line was cut
-pub line_cut : (n : NodeNumbers) (before after : Outside) (stage : Stage) (between : Option (List ℕ)) (faults : Faults)
+pub line_cut : (n : NodeNumbers) (before after : Wired) (stage : Stage) (between : Option (List ℕ)) (faults : Faults)
     (reason : Cut) (answer : NodeEnd) → Reaches n before after stage → Added (text_before stage) before.written between
     → NoneFailed before.write_faults faults
     → WritesLine (line_at n.frames stage) between after.written faults after.write_faults (Err reason)
@@ -71,7 +72,7 @@ line_cut n before after stage between faults cut.NoMemory answer reaches text no
     }))
 
 -- a command whose text was all written ends so
-whole_ends : (n : NodeNumbers) (before after : Outside) (answer : NodeEnd) → EndsWhole n before after answer
+whole_ends : (n : NodeNumbers) (before after : Wired) (answer : NodeEnd) → EndsWhole n before after answer
     → NodeEnds n before after answer
 whole_ends n before after (node_end.Served node) whole = whole
 whole_ends n before after node_end.BadNode whole = whole
@@ -102,7 +103,7 @@ whole_ends n before after node_end.NoMemory whole = absurd (no_cut whole.stage w
     no_cut (ServingEnded port node how) is = no_serving node how is
 
 -- the end where the line was written
-pub line_whole : (n : NodeNumbers) (before after : Outside) (stage : Stage) (between : Option (List ℕ)) (faults : Faults)
+pub line_whole : (n : NodeNumbers) (before after : Wired) (stage : Stage) (between : Option (List ℕ)) (faults : Faults)
     (answer : NodeEnd) → Reaches n before after stage → Added (text_before stage) before.written between
     → NoneFailed before.write_faults faults
     → WritesLine (line_at n.frames stage) between after.written faults after.write_faults (Ok tt)
@@ -129,7 +130,7 @@ module _ (fault : OpenFault) (before after : Option (List ℕ)) (faults faults' 
       → EndsRefused fault before after faults faults' answer
   refused_silently answer written counted is n told last_bind wire_faults refused =
       subst
-      (NodeEnds n (outside told last_bind wire_faults before faults) (outside told last_bind wire_faults after faults')) (sym is)
+      (NodeEnds n (wired told last_bind wire_faults before faults) (wired told last_bind wire_faults after faults')) (sym is)
       (inl (record {
         wire = record { told = refl; last_bind = refl; wire_faults = refl };
         written = written;
@@ -141,7 +142,7 @@ module _ (fault : OpenFault) (before after : Option (List ℕ)) (faults faults' 
       → WritesLine (open_fault_line fault) before after faults faults' (Ok tt) → answer ≡ node_end.BadNode
       → EndsRefused fault before after faults faults' answer
   refused_whole answer other line is n told last_bind wire_faults refused =
-      line_whole n (outside told last_bind wire_faults before faults) (outside told last_bind wire_faults after faults')
+      line_whole n (wired told last_bind wire_faults before faults) (wired told last_bind wire_faults after faults')
       (NodeRefused fault) before faults answer
       (refused_for fault _ other refused, record { told = refl; last_bind = refl; wire_faults = refl })
       (added_nothing before) refl line is
@@ -151,7 +152,7 @@ module _ (fault : OpenFault) (before after : Option (List ℕ)) (faults faults' 
       → WritesLine (open_fault_line fault) before after faults faults' (Err reason) → answer ≡ cut_end reason
       → EndsRefused fault before after faults faults' answer
   refused_cut reason answer other line is n told last_bind wire_faults refused =
-      line_cut n (outside told last_bind wire_faults before faults) (outside told last_bind wire_faults after faults')
+      line_cut n (wired told last_bind wire_faults before faults) (wired told last_bind wire_faults after faults')
       (NodeRefused fault) before faults reason answer
       (refused_for fault _ other refused, record { told = refl; last_bind = refl; wire_faults = refl })
       (added_nothing before) refl line is
@@ -163,7 +164,7 @@ counts_on a b c serve_end.Frames none counts = counts ∙ none
 counts_on a b c (serve_end.Idles served) none counts = counts ∙ none
 counts_on a b c (serve_end.WireFault served) none counts = last_after_none a b c none counts
 
-module _ (port : ℕ) (node : KeptNode) (frames idles : ℕ) (now after : Outside) where
+module _ (port : ℕ) (node : KeptNode) (frames idles : ℕ) (now after : Wired) where
   -- the port's line was cut, and the wire is as it was bound
   pub port_cut : (reason : Cut) (answer : NodeEnd) → after.told ≡ now.told → after.last_bind ≡ now.last_bind
       → after.wire_faults ≡ now.wire_faults
@@ -181,7 +182,7 @@ module _ (port : ℕ) (node : KeptNode) (frames idles : ℕ) (now after : Outsid
       (announced : WritesLine (port_line port) now.written between now.write_faults faults (Ok tt))
       (serves : Serves frames idles node new now.told after.told how)
       (counts : CountsServe now.wire_faults after.wire_faults how) (last_bind : after.last_bind ≡ now.last_bind) where
-    reaches : (asked : ℕ) (config : NodeConfig) (before : Outside) → node ≡ node_of config
+    reaches : (asked : ℕ) (config : NodeConfig) (before : Wired) → node ≡ node_of config
         → IsBound (numbers asked config frames idles) port before now
         → Reaches (numbers asked config frames idles) before after (ServingEnded port new how)
     reaches asked config before fresh bound = (
@@ -191,12 +192,12 @@ module _ (port : ℕ) (node : KeptNode) (frames idles : ℕ) (now after : Outsid
       counts_on before.wire_faults now.wire_faults after.wire_faults how bound.wire_faults counts,
     )
 
-    text : (asked : ℕ) (config : NodeConfig) (before : Outside) → IsBound (numbers asked config frames idles) port before now
+    text : (asked : ℕ) (config : NodeConfig) (before : Wired) → IsBound (numbers asked config frames idles) port before now
         → Added (port_line port) before.written between
     text asked config before bound =
         subst (λ (written : Option (List ℕ)). Added (port_line port) written between) bound.written announced.0
 
-    writes : (asked : ℕ) (config : NodeConfig) (before : Outside) → IsBound (numbers asked config frames idles) port before now
+    writes : (asked : ℕ) (config : NodeConfig) (before : Wired) → IsBound (numbers asked config frames idles) port before now
         → NoneFailed before.write_faults faults
     writes asked config before bound = announced.1 ∙ ap (λ (f : Faults). f.count) bound.write_faults
 
@@ -223,7 +224,7 @@ pub told_same : (coming coming' sent sent' : Option (List Message)) (moments : O
 told_same coming coming' sent sent' moments same_coming same_sent =
     λ i. record { coming = same_coming i; sent = same_sent i; moments = moments }
 
-module _ (port : ℕ) (node : KeptNode) (frames idles : ℕ) (before after : Outside) (told : after.told ≡ before.told)
+module _ (port : ℕ) (node : KeptNode) (frames idles : ℕ) (before after : Wired) (told : after.told ≡ before.told)
     (binds : Binds port Failed before after) (last : LastFailed before.wire_faults after.wire_faults) where
   -- the line was written
   pub unbound_whole : (answer : NodeEnd)
@@ -242,7 +243,7 @@ module _ (port : ℕ) (node : KeptNode) (frames idles : ℕ) (before after : Out
       (record { opens = opens; binds = binds }, told, last) (added_nothing before.written) refl line is
 
 -- the port was bound, and all that came after is the command's end
-pub bound_on : (asked port : ℕ) (node : KeptNode) (frames idles : ℕ) (before now after : Outside) (answer : NodeEnd)
+pub bound_on : (asked port : ℕ) (node : KeptNode) (frames idles : ℕ) (before now after : Wired) (answer : NodeEnd)
     → Binds asked (Port port) before now → now.told ≡ before.told → NoneFailed before.wire_faults now.wire_faults
     → now.written ≡ before.written → now.write_faults ≡ before.write_faults
     → EndsFrom port node frames idles now after answer → EndsOn asked node frames idles before after answer

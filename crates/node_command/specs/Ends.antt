@@ -3,8 +3,6 @@ use Rattle.std.specs.Prelude.{◌≡◌, ◌⊎◌, ℕ, List, [], ◌++◌, Opt
 use Rattle.cl_outside.specs.Counts.{LastFailed, NoneFailed}
 use Rattle.cl_outside.specs.Loops.{WroteFront}
 use Rattle.cl_outside.specs.Told.{Added}
-use Rattle.cl_outside.specs.Wire.{Binding}
-use Rattle.cl_outside.specs.declared.faults.Faults.{Faults}
 use Rattle.cl_outside.specs.declared.wire.Bound.{Bound}
 use Rattle.cl_outside.specs.declared.wire.Bound.TheVariants.{Port, Failed}
 use Rattle.cl_types.specs.declared.config.NodeConfig.{NodeConfig}
@@ -15,10 +13,11 @@ use Rattle.node_core.specs.Keeping.{KeptNode}
 use Rattle.node_model.specs.Nodes.{opening_node}
 use Rattle.texts.specs.Text.{Text}
 use Rattle.texts.specs.Texts.{open_fault_line}
-use Rattle.wire_loop.specs.Serves.{CountsServe, Serves, Told}
+use Rattle.wire_loop.specs.Serves.{CountsServe, Serves}
 use Rattle.wire_loop.specs.declared.serving.ServeEnd.{ServeEnd}
 use Rattle.wire_loop.specs.declared.serving.ServeEnd.TheVariants as serve_end
-use Rattle.node_command.specs.Lines.{end_line, port_line, wire_fault_line}
+use Rattle.wire_loop.specs.Wired.{Wired, wire_fault_line}
+use Rattle.node_command.specs.Lines.{end_line, port_line}
 use Rattle.node_command.specs.declared.node_end.NodeEnd.{NodeEnd}
 use Rattle.node_command.specs.declared.node_end.NodeEnd.TheVariants as node_end
 
@@ -37,25 +36,6 @@ numbers port config frames idles = record { port = port; config = config; frames
 -- the node before its first datagram
 abbrev pub node_of : NodeConfig → KeptNode
 node_of config = record { node = opening_node config; last = 0; cache = no_entries }
-
--- what wire, clock and sink show
-pub record Outside : Type 0 where
-  -- what is to be received, what was sent, and what the clock answers
-  pub told : Told
-  pub last_bind : Option (Option Binding)
-  pub wire_faults : Faults
-  pub written : Option (List ℕ)
-  pub write_faults : Faults
-
--- the same, of these
-abbrev pub outside : Told → Option (Option Binding) → Faults → Option (List ℕ) → Faults → Outside
-outside told last_bind wire_faults written write_faults = record {
-  told = told;
-  last_bind = last_bind;
-  wire_faults = wire_faults;
-  written = written;
-  write_faults = write_faults;
-}
 
 -- ---- stages
 -- how far the command came
@@ -90,23 +70,23 @@ IsEndAt (PortBound port) end = ⊥
 IsEndAt (ServingEnded port node how) end = end ≡ end_by how node
 
 -- nothing was bound, received or sent, and the clock was not asked
-pub record IsUntouched (before after : Outside) : Type 0 where
+pub record IsUntouched (before after : Wired) : Type 0 where
   pub told : after.told ≡ before.told
   pub last_bind : after.last_bind ≡ before.last_bind
   pub wire_faults : after.wire_faults ≡ before.wire_faults
 
 -- the last bind asked for this port, and was answered so
-abbrev pub Binds : ℕ → Bound → Outside → Outside → Type 0
+abbrev pub Binds : ℕ → Bound → Wired → Wired → Type 0
 Binds port answer before after =
     after.last_bind ≡ option_map (λ _. Some (record { asked = port; answer = answer })) before.last_bind
 
 -- the node of these numbers opens, and the bind was answered so
-pub record BoundSo (n : NodeNumbers) (answer : Bound) (before after : Outside) : Type 0 where
+pub record BoundSo (n : NodeNumbers) (answer : Bound) (before after : Wired) : Type 0 where
   pub opens : open_fault n.config ≡ None
   pub binds : Binds n.port answer before after
 
 -- the command came so far, as the wire and the clock show it
-abbrev pub Reaches : NodeNumbers → Outside → Outside → Stage → Type 0
+abbrev pub Reaches : NodeNumbers → Wired → Wired → Stage → Type 0
 -- the node doesn't open, for this reason
 Reaches n before after (NodeRefused fault) = (open_fault n.config ≡ Some fault) × IsUntouched before after
 -- the bind failed, as the last call of the wire, and nothing was received
@@ -122,7 +102,7 @@ Reaches n before after (ServingEnded port node how) =
 
 -- ---- ends
 -- the command ended at a stage, and all text was written
-pub record EndsWhole (n : NodeNumbers) (before after : Outside) (answer : NodeEnd) : Type 0 where
+pub record EndsWhole (n : NodeNumbers) (before after : Wired) (answer : NodeEnd) : Type 0 where
   pub stage : Stage
   pub reaches : Reaches n before after stage
   pub is_end : IsEndAt stage answer
@@ -130,7 +110,7 @@ pub record EndsWhole (n : NodeNumbers) (before after : Outside) (answer : NodeEn
   pub writes : NoneFailed before.write_faults after.write_faults
 
 -- a write failed in the line of a stage, as the last call of the sink, and a prefix of that line was written
-pub record EndsCut (n : NodeNumbers) (before after : Outside) : Type 0 where
+pub record EndsCut (n : NodeNumbers) (before after : Wired) : Type 0 where
   pub stage : Stage
   pub reaches : Reaches n before after stage
   pub between : Option (List ℕ)
@@ -139,20 +119,20 @@ pub record EndsCut (n : NodeNumbers) (before after : Outside) : Type 0 where
   pub writes : LastFailed before.write_faults after.write_faults
 
 -- there was no memory for the line of a stage, and the text before it was written
-pub record EndsShort (n : NodeNumbers) (before after : Outside) : Type 0 where
+pub record EndsShort (n : NodeNumbers) (before after : Wired) : Type 0 where
   pub stage : Stage
   pub reaches : Reaches n before after stage
   pub text : Added (text_before stage) before.written after.written
   pub writes : NoneFailed before.write_faults after.write_faults
 
 -- there was no memory for the node, and nothing was done
-pub record EndsUnopened (before after : Outside) : Type 0 where
+pub record EndsUnopened (before after : Wired) : Type 0 where
   pub wire : IsUntouched before after
   pub written : after.written ≡ before.written
   pub write_faults : after.write_faults ≡ before.write_faults
 
 -- how the command ends
-abbrev pub NodeEnds : NodeNumbers → Outside → Outside → NodeEnd → Type 0
+abbrev pub NodeEnds : NodeNumbers → Wired → Wired → NodeEnd → Type 0
 NodeEnds n before after node_end.WriteFault = EndsCut n before after
 NodeEnds n before after node_end.NoMemory = EndsUnopened before after ⊎ EndsShort n before after
 NodeEnds n before after other = EndsWhole n before after other

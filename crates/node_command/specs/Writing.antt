@@ -12,11 +12,12 @@ use Rattle.cl_types.specs.declared.open_fault.OpenFault.TheVariants as open_faul
 use Rattle.flat_model.specs.Opening as opening
 use Rattle.texts.specs.Text.{Text}
 use Rattle.node_core.specs.Keeping.{KeptNode}
-use Rattle.node_command.specs.Ends.{BoundSo, NodeEnds, NodeNumbers, Outside, end_by, node_of, numbers, outside}
+use Rattle.node_command.specs.Ends.{BoundSo, NodeEnds, NodeNumbers, end_by, node_of, numbers}
 use Rattle.node_command.specs.declared.node_end.NodeEnd.{NodeEnd}
 use Rattle.node_command.specs.declared.node_end.NodeEnd.TheVariants as node_end
 use Rattle.wire_loop.specs.Serves.{Told}
 use Rattle.wire_loop.specs.declared.serving.ServeEnd.{ServeEnd}
+use Rattle.wire_loop.specs.Wired.{Wired, wired}
 use Rattle.node_command.specs.declared.node_end.Cut.{Cut}
 use Rattle.node_command.specs.declared.node_end.Cut.TheVariants as cut
 
@@ -46,7 +47,7 @@ abbrev pub IsRefusedFor : NodeConfig → OpenFault → Type 0
 IsRefusedFor config fault = MatchOption (opening.open_fault config) (fault ≡ open_fault.NoMemory) (λ found. fault ≡ found)
 
 -- from before until now this port was bound, and nothing else was done
-pub record IsBound (n : NodeNumbers) (port : ℕ) (before now : Outside) : Type 0 where
+pub record IsBound (n : NodeNumbers) (port : ℕ) (before now : Wired) : Type 0 where
   pub so : BoundSo n (Port port) before now
   pub told : now.told ≡ before.told
   pub wire_faults : NoneFailed before.wire_faults now.wire_faults
@@ -54,14 +55,14 @@ pub record IsBound (n : NodeNumbers) (port : ℕ) (before now : Outside) : Type 
   pub write_faults : now.write_faults ≡ before.write_faults
 
 -- wherever a port was bound so far for the node of some numbers, the command ends so from now on
-abbrev pub EndsFrom : (port : ℕ) → KeptNode → (frames idles : ℕ) → (now after : Outside) → NodeEnd → Type 0
+abbrev pub EndsFrom : (port : ℕ) → KeptNode → (frames idles : ℕ) → (now after : Wired) → NodeEnd → Type 0
 EndsFrom port node frames idles now after answer =
-    (asked : ℕ) (config : NodeConfig) (before : Outside) → node ≡ node_of config
+    (asked : ℕ) (config : NodeConfig) (before : Wired) → node ≡ node_of config
     → IsBound (numbers asked config frames idles) port before now
     → NodeEnds (numbers asked config frames idles) before after answer
 
 -- wherever the node of a configuration that opens is to be served on this port, the command ends so
-abbrev pub EndsOn : (port : ℕ) → KeptNode → (frames idles : ℕ) → (before after : Outside) → NodeEnd → Type 0
+abbrev pub EndsOn : (port : ℕ) → KeptNode → (frames idles : ℕ) → (before after : Wired) → NodeEnd → Type 0
 EndsOn port node frames idles before after answer =
     (config : NodeConfig) → node ≡ node_of config → opening.open_fault config ≡ None
     → NodeEnds (numbers port config frames idles) before after answer
@@ -70,4 +71,4 @@ EndsOn port node frames idles before after answer =
 abbrev pub EndsRefused : OpenFault → (before after : Option (List ℕ)) → (faults faults' : Faults) → NodeEnd → Type 0
 EndsRefused fault before after faults faults' answer =
     (n : NodeNumbers) (told : Told) (last_bind : Option (Option Binding)) (wire_faults : Faults) → IsRefusedFor n.config fault
-    → NodeEnds n (outside told last_bind wire_faults before faults) (outside told last_bind wire_faults after faults') answer
+    → NodeEnds n (wired told last_bind wire_faults before faults) (wired told last_bind wire_faults after faults') answer

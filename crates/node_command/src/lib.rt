@@ -2,7 +2,7 @@
 //!
 //! A contract sees the port that was asked for and bound, what came and was sent, what the clock
 //! answered, and the text. `specs/Lines.antt` has the lines, and `specs/Ends.antt` says how the
-//! command ends. The program does not offer it yet: nothing calls `serve_node`.
+//! command ends.
 #![tactic(auto)]
 
 mod command;
@@ -10,4 +10,5 @@ mod lines;
 mod node_end;
 
 pub use command::serve_node;
+pub use lines::refusal_text;
 pub use node_end::NodeEnd;

@@ -3,7 +3,8 @@
 ghost use Rattle.std.specs.Prelude.{◌≡◌, IfOk};
 ghost use Rattle.std.specs.String.{string_bytes};
 ghost use Rattle.texts.specs.Texts.{number_text, open_fault_line};
-ghost use Rattle.node_command.specs.Lines.{end_line, port_line, wire_fault_line};
+ghost use Rattle.wire_loop.specs.Wired.{wire_fault_line};
+ghost use Rattle.node_command.specs.Lines.{end_line, port_line};
 ghost use Rattle.node_command.specs.Writing.{WritesLine};
 
 use crate::node_end::Cut;
@@ -57,8 +58,9 @@ fn number_name(field: Field) -> &'static str
     }
 }
 
-/// The line that says why a node does not open; out of memory has none.
-fn refusal_text(alloc: Global, fault: OpenFault) -> Result<String, NoMemory>
+/// The line that says why a node does not open, `bad node: ..`; out of memory has none, and gives an
+/// empty text.
+pub fn refusal_text(alloc: Global, fault: OpenFault) -> Result<String, NoMemory>
     ensures { IfOk result (λ text. string_bytes text ≡ open_fault_line fault) }
 {
     match fault {

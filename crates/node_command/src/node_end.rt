@@ -1,6 +1,7 @@
 //! How the command ends.
 
 ghost use Rattle.std.specs.Prelude.{◌≡◌};
+ghost use Rattle.node_command.specs.Ends.{end_by};
 ghost use Rattle.node_command.specs.Writing.{cut_end, ends_by};
 
 use cl_types::items::NoMemory;
@@ -52,15 +53,22 @@ pub fn end_of_cut(cut: Cut) -> NodeEnd
     }
 }
 
+/// The end of a command whose node was served to this end.
+pub fn end_of_served(how: ServeEnd, node: Node) -> NodeEnd
+    ensures { result ≡ end_by how node }
+{
+    match how {
+        ServeEnd::Frames | ServeEnd::Idles { frames: _ } => NodeEnd::Served(node),
+        ServeEnd::WireFault { frames: _ } => NodeEnd::WireFault,
+    }
+}
+
 /// The end of a command whose node was served to this end, or whose text was cut.
 pub fn end_of_serving(ended: Result<ServeEnd, Cut>, node: Node) -> NodeEnd
     ensures { result ≡ ends_by ended node }
 {
     match ended {
-        Ok(ServeEnd::Frames) => NodeEnd::Served(node),
-        Ok(ServeEnd::Idles { frames: _ }) => NodeEnd::Served(node),
-        Ok(ServeEnd::WireFault { frames: _ }) => NodeEnd::WireFault,
-        Err(Cut::WriteFault) => NodeEnd::WriteFault,
-        Err(Cut::NoMemory) => NodeEnd::NoMemory,
+        Ok(how) => end_of_served(how, node),
+        Err(cut) => end_of_cut(cut),
     }
 }

@@ -3,6 +3,7 @@ pub mod Serving
 pub mod Driving
 pub mod Printing
 pub mod Serves
+pub mod Wired
 pub mod Turns
 pub mod Ran
 pub mod ServedAlike

@@ -2,7 +2,8 @@ use Rattle.std.proofs.Common.{inl, inr, refl, sym, ap, ◌∙◌}
 use Rattle.client_model.specs.Client.{ClientState, new_client}
 use Rattle.wire_loop.specs.Driving.{AllEnded, Stalled, WireFailed}
 use Rattle.wire_loop.specs.Serves.{told_of}
-use Rattle.client_command.specs.Ends.{TurnText, outside, task_of}
+use Rattle.wire_loop.specs.Wired.{wired}
+use Rattle.client_command.specs.Ends.{TurnText, task_of}
 use Rattle.client_command.proofs.EndLemmas.{Found, added_nothing, broken_off, driven_to, fault_ends, stalled_ends, told_same, unbound_ends}
 use Rattle.client_command.proofs.command.drive_client.Goals as goal
 
@@ -20,12 +21,12 @@ returns-in_default g c = record { came = inl refl; wire = refl; sink = refl }
 pub returns-in_default-bind : goal.returns-in_default-bind
 returns-in_default-bind g c =
     let before =
-    outside
+    wired
     (told_of (g.W.Wire.coming c.args.wire.now) (g.W.Wire.sent c.args.wire.now) (g.C.Clock.moments c.args.clock.now))
     (g.W.Wire.last_bind c.args.wire.now) (g.W.Wire.faults c.args.wire.now)
     (g.K.Sink.written c.args.sink.now) (g.K.Sink.faults c.args.sink.now) in
     let after =
-    outside
+    wired
     (told_of (g.W.Wire.coming c.bind.new.self) (g.W.Wire.sent c.bind.new.self) (g.C.Clock.moments c.args.clock.now))
     (g.W.Wire.last_bind c.bind.new.self) (g.W.Wire.faults c.bind.new.self)
     (g.K.Sink.written c.end_wire_fault.new.sink) (g.K.Sink.faults c.end_wire_fault.new.sink) in
@@ -39,17 +40,17 @@ returns-in_default-bind g c =
 pub returns-in-AllEnded : goal.returns-in-AllEnded
 returns-in-AllEnded g c =
     let before =
-    outside
+    wired
     (told_of (g.W.Wire.coming c.args.wire.now) (g.W.Wire.sent c.args.wire.now) (g.C.Clock.moments c.args.clock.now))
     (g.W.Wire.last_bind c.args.wire.now) (g.W.Wire.faults c.args.wire.now)
     (g.K.Sink.written c.args.sink.now) (g.K.Sink.faults c.args.sink.now) in
     let between =
-    outside
+    wired
     (told_of (g.W.Wire.coming c.bind.new.self) (g.W.Wire.sent c.bind.new.self) (g.C.Clock.moments c.args.clock.now))
     (g.W.Wire.last_bind c.bind.new.self) (g.W.Wire.faults c.bind.new.self)
     (g.K.Sink.written c.args.sink.now) (g.K.Sink.faults c.args.sink.now) in
     let after =
-    outside
+    wired
     (told_of (g.W.Wire.coming c.drive.new.wire) (g.W.Wire.sent c.drive.new.wire) (g.C.Clock.moments c.drive.new.clock))
     (g.W.Wire.last_bind c.drive.new.wire) (g.W.Wire.faults c.drive.new.wire)
     (g.K.Sink.written c.drive.new.sink) (g.K.Sink.faults c.drive.new.sink) in
@@ -74,17 +75,17 @@ returns-in-AllEnded g c =
 pub returns-in-Stalled : goal.returns-in-Stalled
 returns-in-Stalled g c =
     let before =
-    outside
+    wired
     (told_of (g.W.Wire.coming c.args.wire.now) (g.W.Wire.sent c.args.wire.now) (g.C.Clock.moments c.args.clock.now))
     (g.W.Wire.last_bind c.args.wire.now) (g.W.Wire.faults c.args.wire.now)
     (g.K.Sink.written c.args.sink.now) (g.K.Sink.faults c.args.sink.now) in
     let between =
-    outside
+    wired
     (told_of (g.W.Wire.coming c.bind.new.self) (g.W.Wire.sent c.bind.new.self) (g.C.Clock.moments c.args.clock.now))
     (g.W.Wire.last_bind c.bind.new.self) (g.W.Wire.faults c.bind.new.self)
     (g.K.Sink.written c.args.sink.now) (g.K.Sink.faults c.args.sink.now) in
     let after =
-    outside
+    wired
     (told_of (g.W.Wire.coming c.drive.new.wire) (g.W.Wire.sent c.drive.new.wire) (g.C.Clock.moments c.drive.new.clock))
     (g.W.Wire.last_bind c.drive.new.wire) (g.W.Wire.faults c.drive.new.wire)
     (g.K.Sink.written c.end_stalled.new.sink) (g.K.Sink.faults c.end_stalled.new.sink) in
@@ -107,17 +108,17 @@ returns-in-Stalled g c =
 pub returns-in-WireFault : goal.returns-in-WireFault
 returns-in-WireFault g c =
     let before =
-    outside
+    wired
     (told_of (g.W.Wire.coming c.args.wire.now) (g.W.Wire.sent c.args.wire.now) (g.C.Clock.moments c.args.clock.now))
     (g.W.Wire.last_bind c.args.wire.now) (g.W.Wire.faults c.args.wire.now)
     (g.K.Sink.written c.args.sink.now) (g.K.Sink.faults c.args.sink.now) in
     let between =
-    outside
+    wired
     (told_of (g.W.Wire.coming c.bind.new.self) (g.W.Wire.sent c.bind.new.self) (g.C.Clock.moments c.args.clock.now))
     (g.W.Wire.last_bind c.bind.new.self) (g.W.Wire.faults c.bind.new.self)
     (g.K.Sink.written c.args.sink.now) (g.K.Sink.faults c.args.sink.now) in
     let after =
-    outside
+    wired
     (told_of (g.W.Wire.coming c.drive.new.wire) (g.W.Wire.sent c.drive.new.wire) (g.C.Clock.moments c.drive.new.clock))
     (g.W.Wire.last_bind c.drive.new.wire) (g.W.Wire.faults c.drive.new.wire)
     (g.K.Sink.written c.end_wire_fault-in-WireFault.new.sink) (g.K.Sink.faults c.end_wire_fault-in-WireFault.new.sink) in
@@ -139,17 +140,17 @@ returns-in-WireFault g c =
 pub returns-in-WriteFault : goal.returns-in-WriteFault
 returns-in-WriteFault g c =
     let before =
-    outside
+    wired
     (told_of (g.W.Wire.coming c.args.wire.now) (g.W.Wire.sent c.args.wire.now) (g.C.Clock.moments c.args.clock.now))
     (g.W.Wire.last_bind c.args.wire.now) (g.W.Wire.faults c.args.wire.now)
     (g.K.Sink.written c.args.sink.now) (g.K.Sink.faults c.args.sink.now) in
     let between =
-    outside
+    wired
     (told_of (g.W.Wire.coming c.bind.new.self) (g.W.Wire.sent c.bind.new.self) (g.C.Clock.moments c.args.clock.now))
     (g.W.Wire.last_bind c.bind.new.self) (g.W.Wire.faults c.bind.new.self)
     (g.K.Sink.written c.args.sink.now) (g.K.Sink.faults c.args.sink.now) in
     let after =
-    outside
+    wired
     (told_of (g.W.Wire.coming c.drive.new.wire) (g.W.Wire.sent c.drive.new.wire) (g.C.Clock.moments c.drive.new.clock))
     (g.W.Wire.last_bind c.drive.new.wire) (g.W.Wire.faults c.drive.new.wire)
     (g.K.Sink.written c.drive.new.sink) (g.K.Sink.faults c.drive.new.sink) in
@@ -168,17 +169,17 @@ returns-in-WriteFault g c =
 pub returns-in-NoMemory : goal.returns-in-NoMemory
 returns-in-NoMemory g c =
     let before =
-    outside
+    wired
     (told_of (g.W.Wire.coming c.args.wire.now) (g.W.Wire.sent c.args.wire.now) (g.C.Clock.moments c.args.clock.now))
     (g.W.Wire.last_bind c.args.wire.now) (g.W.Wire.faults c.args.wire.now)
     (g.K.Sink.written c.args.sink.now) (g.K.Sink.faults c.args.sink.now) in
     let between =
-    outside
+    wired
     (told_of (g.W.Wire.coming c.bind.new.self) (g.W.Wire.sent c.bind.new.self) (g.C.Clock.moments c.args.clock.now))
     (g.W.Wire.last_bind c.bind.new.self) (g.W.Wire.faults c.bind.new.self)
     (g.K.Sink.written c.args.sink.now) (g.K.Sink.faults c.args.sink.now) in
     let after =
-    outside
+    wired
     (told_of (g.W.Wire.coming c.drive.new.wire) (g.W.Wire.sent c.drive.new.wire) (g.C.Clock.moments c.drive.new.clock))
     (g.W.Wire.last_bind c.drive.new.wire) (g.W.Wire.faults c.drive.new.wire)
     (g.K.Sink.written c.drive.new.sink) (g.K.Sink.faults c.drive.new.sink) in
