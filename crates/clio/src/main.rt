@@ -1,7 +1,7 @@
-//! The program `clio`: its words, standard input and standard output, and the status with which it ends.
+//! The program `clio`: its words, standard input and standard output, UDP and the system's clock, and the status with which it ends.
 #![tactic(auto)]
 
-use cl_outside::{StdSink, StdSource};
+use cl_outside::{StdClock, StdSink, StdSource, UdpWire};
 use clio_cli::{Left, Words, run};
 use std::io::ErrorKind;
 use std::process::ExitCode;
@@ -36,6 +36,16 @@ fn main(rt: HostRuntime) -> ExitCode {
     };
     let mut source = StdSource::create(rt.reader());
     let mut sink = StdSink::create(io::writer(&rt));
+    let mut wire = UdpWire::create(&rt);
+    let mut clock = StdClock::create(&rt);
     let mut left = Left::Nothing;
-    ExitCode::from(run(rt.alloc(), &words, &mut source, &mut sink, &mut left))
+    ExitCode::from(run(
+        rt.alloc(),
+        &words,
+        &mut source,
+        &mut sink,
+        &mut wire,
+        &mut clock,
+        &mut left,
+    ))
 }

@@ -22,7 +22,7 @@ use Rattle.clio_cli.specs.Wanted.{Keeps, Serves}
 use Rattle.clio_cli.specs.declared.left.Left.{Left}
 use Rattle.clio_cli.specs.declared.status.Status.{Status}
 use Rattle.clio_cli.specs.declared.status.Status.TheVariants as status
-use Rattle.clio_cli.proofs.RunLemmas.{bad_input_exactly, bad_node_exactly, bad_words_exactly, completely, faults_end, not_run_exactly, one_status, too_long_exactly}
+use Rattle.clio_cli.proofs.RunLemmas.{bad_input_exactly, bad_node_exactly, bad_words_exactly, completely, faults_end, network_is, not_run_exactly, one_status, stalled_only, too_long_exactly}
 
 -- the account of a good schedule keeps the headline
 pub headline_of_good : (s : Schedule) → IsGood s.config s.events → Headline s.config (account s.config s.events)
@@ -56,7 +56,9 @@ module _ (words : List Text) (before after : Outside) (kept : Left) (number : �
   leaves_nothing status.ReadFault is keeps other = keeps
   leaves_nothing status.WriteFault is keeps other = keeps
   leaves_nothing status.NoMemory is keeps other = keeps
+  leaves_nothing status.WireFault is keeps other = keeps
   leaves_nothing status.NotRun is keeps other = keeps
+  leaves_nothing status.Stalled is keeps other = keeps
   leaves_nothing status.TooLong is keeps other = keeps
   leaves_nothing status.BadNode is keeps other = keeps
 
@@ -64,24 +66,17 @@ module _ (words : List Text) (before after : Outside) (kept : Left) (number : �
   pub runs : (st : Status) → number ≡ number_of st → Serves (command_in words) before after kept st → Runs words before after kept number
   runs st is serves = record {
     ends = end;
-    complete = completely after number reads writes written st is (command_in words) before.left serves.ends;
+    complete = completely before after number (command_in words) end;
     headline = ends_in_headline st is serves.keeps;
     left = leaves_nothing st is serves.keeps;
-    bad_words = bad_words_exactly words after number reads writes written before.left end;
-    bad_input = bad_input_exactly words after number reads writes written before.left end;
-    too_long = too_long_exactly words after number reads writes written before.left end;
-    bad_node = bad_node_exactly words after number reads writes written before.left end;
-    not_run = not_run_exactly words after number reads writes written before.left end;
+    bad_words = bad_words_exactly (command_in words) before after number end;
+    bad_input = bad_input_exactly (command_in words) before after number end;
+    too_long = too_long_exactly (command_in words) before after number end;
+    bad_node = bad_node_exactly before after number (command_in words) end;
+    not_run = not_run_exactly (command_in words) before after number end;
+    stalled = stalled_only (command_in words) before after number end;
+    network = network_is (command_in words) before after number end;
     faults = faults_end (command_in words) before after number st is serves.ends;
   } where
     end : EndsWith words before after number
     end = (st, is, serves.ends)
-
-    reads : Faults
-    reads = before.read_faults
-
-    writes : Faults
-    writes = before.write_faults
-
-    written : Option (List ℕ)
-    written = before.written

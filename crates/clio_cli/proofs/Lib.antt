@@ -5,6 +5,7 @@ pub mod GatherLemmas
 pub mod ReplayLemmas
 pub mod OutputLemmas
 pub mod JudgeLemmas
+pub mod EndLemmas
 pub mod RunLemmas
 pub mod HeadlineLemmas
 pub mod ServeLemmas

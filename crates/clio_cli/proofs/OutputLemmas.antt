@@ -24,6 +24,8 @@ abbrev pub IsFinal : Status → Type 0
 IsFinal status.ReadFault = ⊥
 IsFinal status.WriteFault = ⊥
 IsFinal status.NoMemory = ⊥
+IsFinal status.WireFault = ⊥
+IsFinal status.Stalled = ⊥
 IsFinal other = Unit {0}
 
 -- what a value asks for has this status
@@ -42,6 +44,8 @@ answer_final status.BadNode is = absurd is
 answer_final status.ReadFault is = absurd is
 answer_final status.WriteFault is = absurd is
 answer_final status.NoMemory is = absurd is
+answer_final status.WireFault is = absurd is
+answer_final status.Stalled is = absurd is
 
 -- the status of an output that is another
 pub status_is : {output other : Output} → output ≡ other → output.status ≡ other.status
@@ -54,16 +58,16 @@ differs st other same never = never (ap number_of same)
 pub none_some : {A : Type 0} (o : Option A) (x : A) → o ≡ None → o ≡ Some x → ⊥
 none_some o x none some = absurd (let never : ◌≡◌ {A = Option _} None (Some x) = sym none ∙ some in grind arith)
 
-ok_err : {A B : Type 0} (r : Result A B) (x : A) (e : B) → r ≡ Ok x → r ≡ Err e → ⊥
+pub ok_err : {A B : Type 0} (r : Result A B) (x : A) (e : B) → r ≡ Ok x → r ≡ Err e → ⊥
 ok_err r x e ok err = absurd (let never : ◌≡◌ {A = Result _ _} (Ok x) (Err e) = sym ok ∙ err in grind arith)
 
 ok_same : {A B : Type 0} (r : Result A B) (x y : A) → r ≡ Ok x → r ≡ Ok y → x ≡ y
 ok_same r x y first second = let same : ◌≡◌ {A = Result _ _} (Ok x) (Ok y) = sym first ∙ second in cc
 
 -- ---- the output on an input
-module _ (A : Type 0) (read : List ℕ → Result A Fault) (node_of : A → NodeConfig) (Asked : A → Output → Type 0) (bytes : List ℕ) (output : Output) where
+module _ (A : Type 0) (read : List ℕ → Result A Fault) (fault_of : A → Option OpenFault) (Asked : A → Output → Type 0) (bytes : List ℕ) (output : Output) where
   abbrev Answers : Type 0
-  Answers = AnswersInput A read node_of Asked bytes output
+  Answers = AnswersInput A read fault_of Asked bytes output
 
   module _ (answer : (value : A) → Asked value output → IsAnswer output.status) where
     pub answers_final : Answers → IsFinal output.status
@@ -92,14 +96,14 @@ module _ (A : Type 0) (read : List ℕ → Result A Fault) (node_of : A → Node
     is_refused (OnBadNode bad is) st = absurd (differs _ _ (sym (status_is is) ∙ st) (λ same. omega (arith, same)))
     is_refused (OnValue value encoded asked) st = absurd (subst IsAnswer st (answer value asked))
 
-    pub is_closed : Answers → output.status ≡ status.BadNode → HasBadNode A read node_of bytes
+    pub is_closed : Answers → output.status ≡ status.BadNode → HasBadNode A read fault_of bytes
     is_closed (OnLong long is) st = absurd (differs _ _ (sym (status_is is) ∙ st) (λ same. omega (arith, same)))
     is_closed (OnBadLine refused is) st = absurd (differs _ _ (sym (status_is is) ∙ st) (λ same. omega (arith, same)))
     is_closed (OnBadNode bad is) st = bad
     is_closed (OnValue value encoded asked) st = absurd (subst IsAnswer st (answer value asked))
 
     -- a status that only a value asks for
-    pub is_asked : (st : Status) → IsAnswer st → Answers → output.status ≡ st → (value : A) × Encodes A read node_of bytes value × Asked value output
+    pub is_asked : (st : Status) → IsAnswer st → Answers → output.status ≡ st → (value : A) × Encodes A read fault_of bytes value × Asked value output
     is_asked st final (OnLong long is) same = absurd (subst IsAnswer (sym same ∙ status_is is) final)
     is_asked st final (OnBadLine refused is) same = absurd (subst IsAnswer (sym same ∙ status_is is) final)
     is_asked st final (OnBadNode bad is) same = absurd (subst IsAnswer (sym same ∙ status_is is) final)
@@ -118,23 +122,23 @@ module _ (A : Type 0) (read : List ℕ → Result A Fault) (node_of : A → Node
   refused_status (OnBadNode bad is) cause = absurd (ok_err (read bytes) bad.value cause.fault bad.encoded cause.line)
   refused_status (OnValue value encoded asked) cause = absurd (ok_err (read bytes) value cause.fault encoded.encoded cause.line)
 
-  pub closed_status : Answers → HasBadNode A read node_of bytes → output.status ≡ status.BadNode
+  pub closed_status : Answers → HasBadNode A read fault_of bytes → output.status ≡ status.BadNode
   closed_status (OnLong long is) cause = absurd (none_some (too_long_of bytes) long.0 cause.short long.1)
   closed_status (OnBadLine refused is) cause = absurd (ok_err (read bytes) cause.value refused.fault cause.encoded refused.line)
   closed_status (OnBadNode bad is) cause = status_is is
   closed_status (OnValue value encoded asked) cause =
-      absurd (none_some (open_fault (node_of value)) cause.fault encoded.opens (ap (λ v. open_fault (node_of v)) (ok_same (read bytes) value cause.value encoded.encoded cause.encoded) ∙ cause.closed))
+      absurd (none_some (fault_of value) cause.fault encoded.opens (ap (λ v. fault_of v) (ok_same (read bytes) value cause.value encoded.encoded cause.encoded) ∙ cause.closed))
 
   -- what the value asks for
-  pub value_asked : Answers → (value : A) → Encodes A read node_of bytes value → Asked value output
+  pub value_asked : Answers → (value : A) → Encodes A read fault_of bytes value → Asked value output
   value_asked (OnLong long is) value e = absurd (none_some (too_long_of bytes) long.0 e.short long.1)
   value_asked (OnBadLine refused is) value e = absurd (ok_err (read bytes) value refused.fault e.encoded refused.line)
   value_asked (OnBadNode bad is) value e =
-      absurd (none_some (open_fault (node_of value)) bad.fault e.opens (ap (λ v. open_fault (node_of v)) (ok_same (read bytes) value bad.value e.encoded bad.encoded) ∙ bad.closed))
+      absurd (none_some (fault_of value) bad.fault e.opens (ap (λ v. fault_of v) (ok_same (read bytes) value bad.value e.encoded bad.encoded) ∙ bad.closed))
   value_asked (OnValue other encoded asked) value e = subst (λ v. Asked v output) (ok_same (read bytes) other value encoded.encoded e.encoded) asked
 
   -- an input that nothing is asked of
-  pub refused_answers : AnswersInput A read node_of (λ value o. ⊥) bytes output → Answers
+  pub refused_answers : AnswersInput A read fault_of (λ value o. ⊥) bytes output → Answers
   refused_answers (OnLong long is) = OnLong long is
   refused_answers (OnBadLine refused is) = OnBadLine refused is
   refused_answers (OnBadNode bad is) = OnBadNode bad is
@@ -147,20 +151,20 @@ many_long bytes many =
     rw more refl
 
 -- of a source that tells, the output is the one on its bytes
-pub gave_answers : (A : Type 0) (read : List ℕ → Result A Fault) (node_of : A → NodeConfig) (Asked : A → Output → Type 0) (given bytes : List ℕ) (output : Output) (after : Option (List ℕ))
-    → Gave given (Some bytes) after → AnswersInput A read node_of Asked given output → AnswersInput A read node_of Asked bytes output
-gave_answers A read node_of Asked given bytes output after (inl input) answers = subst (λ given. AnswersInput A read node_of Asked given output) input.whole answers
-gave_answers A read node_of Asked given bytes output after (inr many) answers = by after many.taken answers where
+pub gave_answers : (A : Type 0) (read : List ℕ → Result A Fault) (fault_of : A → Option OpenFault) (Asked : A → Output → Type 0) (given bytes : List ℕ) (output : Output) (after : Option (List ℕ))
+    → Gave given (Some bytes) after → AnswersInput A read fault_of Asked given output → AnswersInput A read fault_of Asked bytes output
+gave_answers A read fault_of Asked given bytes output after (inl input) answers = subst (λ given. AnswersInput A read fault_of Asked given output) input.whole answers
+gave_answers A read fault_of Asked given bytes output after (inr many) answers = by after many.taken answers where
   first : too_long_of given ≡ Some (long.TooLong true (INPUT_BYTES + 1))
   first = let count = many.count in many_long given (omega (arith, count))
 
-  on : too_long_of bytes ≡ Some (long.TooLong true (INPUT_BYTES + 1)) → AnswersInput A read node_of Asked given output → AnswersInput A read node_of Asked bytes output
+  on : too_long_of bytes ≡ Some (long.TooLong true (INPUT_BYTES + 1)) → AnswersInput A read fault_of Asked given output → AnswersInput A read fault_of Asked bytes output
   on second (OnLong (fault, is_long) is) = OnLong (fault, second ∙ sym first ∙ is_long) is
   on second (OnBadLine refused is) = absurd (none_some (too_long_of given) _ refused.short first)
   on second (OnBadNode bad is) = absurd (none_some (too_long_of given) _ bad.short first)
   on second (OnValue value encoded asked) = absurd (none_some (too_long_of given) _ encoded.short first)
 
-  by : (left : Option (List ℕ)) → Took given (Some bytes) left → AnswersInput A read node_of Asked given output → AnswersInput A read node_of Asked bytes output
+  by : (left : Option (List ℕ)) → Took given (Some bytes) left → AnswersInput A read fault_of Asked given output → AnswersInput A read fault_of Asked bytes output
   by None taken answers = absurd (let never : ◌≡◌ {A = Option (List ℕ)} (Some bytes) None = taken in grind arith)
   by (Some rest) taken answers =
       let whole : bytes ≡ given ++ rest = cc in

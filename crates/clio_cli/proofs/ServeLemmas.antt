@@ -1,6 +1,6 @@
 -- How serving a command ends, by what it asked for.
 use Rattle.std.proofs.Common.{◌≡◌, inl, inr, ℕ, ◌+◌, ◌<◌, ◌≤◌, Bool, true, false, List, [], ◌∷◌, Option, Some, None, refl, sym, ap, subst, ◌∙◌, arith, length}
-use Rattle.std.specs.Prelude.{◌^◌, if◌then◌else◌, leb}
+use Rattle.std.specs.Prelude.{Result, Ok, Err, ◌^◌, if◌then◌else◌, leb, nat_lt}
 use Rattle.std.specs.List.{AllByRecursion as Each}
 use Rattle.std.proofs.lemmas.Bool.Decides.{nat_tests}
 use Rattle.cl_outside.specs.Counts.{LastFailed, NoneFailed}
@@ -11,10 +11,19 @@ use Rattle.cl_types.specs.Places.{is_bucket_count}
 use Rattle.cl_types.specs.declared.config.Field.{Field}
 use Rattle.cl_types.specs.declared.config.Field.TheVariants as field
 use Rattle.cl_types.specs.declared.config.NodeConfig.{NodeConfig}
-use Rattle.cl_types.specs.declared.limits.TheConstants.{INPUT_BYTES}
+use Rattle.cl_types.specs.declared.limits.TheConstants.{INPUT_BYTES, INPUT_LINES}
 use Rattle.cl_types.specs.declared.open_fault.OpenFault.{OpenFault}
 use Rattle.cl_types.specs.declared.schedule.Event.{Event}
 use Rattle.cl_types.specs.declared.schedule.Schedule.{Schedule}
+use Rattle.cl_types.specs.declared.numbers.ClientNo.{ClientNo}
+use Rattle.cl_types.specs.declared.schedule.CallText.{CallText}
+use Rattle.cl_types.specs.declared.schedule.What.{What}
+use Rattle.client_command.specs.Ends.{ClientEnds, task_of}
+use Rattle.client_command.specs.declared.ends.ClientEnd.{ClientEnd}
+use Rattle.client_command.specs.declared.ends.ClientEnd.TheVariants as client_end
+use Rattle.node_command.specs.Ends.{NodeEnds, NodeNumbers}
+use Rattle.node_command.specs.declared.node_end.NodeEnd.{NodeEnd}
+use Rattle.node_command.specs.declared.node_end.NodeEnd.TheVariants as node_end
 use Rattle.flat_model.specs.Opening.{if_none_bad, open_fault, room_fault}
 use Rattle.history_check.specs.Verdicts.{IsVerdict}
 use Rattle.history_check.specs.declared.history.Verdict.TheVariants as verdict
@@ -25,25 +34,28 @@ use Rattle.schedule_text.specs.declared.fault.ScheduleFault.TheVariants as long
 use Rattle.storm_gen.specs.Generated.{generated}
 use Rattle.texts.specs.Commands.{Command, Replay, Check, Storm, Drive}
 use Rattle.texts.specs.Commands as commands
-use Rattle.texts.specs.Grammar.{schedule_of}
+use Rattle.texts.specs.Grammar.{Fault, schedule_of, script_from, script_line, script_more}
+use Rattle.texts.specs.Text.{Text, is_skipped, lines_in}
 use Rattle.trace.specs.Events.{keep_all}
 use Rattle.trace.specs.Schedules.{IsRisingFrom}
 use Rattle.trace_laws.proofs.Spelled.{frames_are_spelled, rises_from_zero}
 use Rattle.trace_laws.proofs.WindowKept.{one_account}
-use Rattle.trace_texts.proofs.ReadSchedules.{schedules_are_good}
+use Rattle.trace_texts.proofs.ReadSchedules.{no_ok, ok_is, schedules_are_good}
 use Rattle.trace_texts.specs.Transcripts.{transcript}
 use Rattle.transcript_text.specs.HistoryGrammar.{history_of}
 use Rattle.world.specs.Follows.{StandsFor}
 use Rattle.world.specs.Running.{Running}
-use Rattle.clio_cli.specs.Headline.{Checks, Replays, Storms, Succeeds, Worked}
-use Rattle.clio_cli.specs.Outputs.{AnswersCheck, AsksTranscript, AsksVerdict, History, IsCheckable, IsReplayable, OnBadLine, OnBadNode, OnLong, OnValue, bad_words, history_node, schedule_node, storm_output, verdict_output, too_long_output}
+use Rattle.clio_cli.specs.Headline.{Checks, Replays, Storms, Succeeds, SucceedsInText, Worked}
+use Rattle.clio_cli.specs.Outputs.{AnswersCheck, AsksTranscript, AsksVerdict, Calls, History, IsCheckable, IsReplayable, IsScript, OnBadLine, OnBadNode, OnLong, OnValue, RefusesScript, bad_words, history_fault, schedule_fault, storm_output, verdict_output, too_long_output}
 use Rattle.clio_cli.specs.Replay.{IsServed, Plays}
-use Rattle.clio_cli.specs.Run.{Asks, Ends, Gave, IsInput, IsTooMany, Outside, TakesBy}
-use Rattle.clio_cli.specs.Wanted.{IsWantedBy, IsWantedOf, Keeps, RefusesReplay, Says, Serves}
-use Rattle.clio_cli.specs.Words.{is_built_command, reads_input}
+use Rattle.clio_cli.specs.Run.{Asks, EndsInText, Gave, InText, IsInput, IsTooMany, IsUnread, OnNode, OnScript, Outside, Streams, TakesBy, TookScript, client_status, node_status, wired_of}
+use Rattle.clio_cli.specs.Wanted.{DrivesClient, IsScriptedBy, IsScriptedOf, IsWantedBy, IsWantedOf, Keeps, KeepsInText, RefusesReplay, Says, Serves, ServesInText, ServesNode, client_left, node_left}
+use Rattle.clio_cli.specs.Words.{reads_input}
 use Rattle.clio_cli.specs.declared.judge.Output.{Output}
 use Rattle.clio_cli.specs.declared.judge.Wanted.{Wanted}
 use Rattle.clio_cli.specs.declared.judge.Wanted.TheVariants as wanted
+use Rattle.clio_cli.specs.declared.script.WantedScript.{WantedScript}
+use Rattle.clio_cli.specs.declared.script.WantedScript.TheVariants as wanted_script
 use Rattle.clio_cli.specs.declared.left.Left.{Left}
 use Rattle.clio_cli.specs.declared.left.Left.TheVariants as left
 use Rattle.clio_cli.specs.declared.status.Status.{Status}
@@ -51,7 +63,7 @@ use Rattle.clio_cli.specs.declared.status.Status.TheVariants as status
 use Rattle.clio_cli.proofs.HeadlineLemmas.{headline_of_good}
 use Rattle.clio_cli.proofs.OutputLemmas.{IsFinal, answers_final, is_asked, many_long, none_some, refused_answers, status_is}
 use Rattle.clio_cli.proofs.RunLemmas.{history_answer, run_of, wrote_ends}
-use Rattle.clio_cli.proofs.SuitedLemmas.{schedules_suited}
+use Rattle.clio_cli.proofs.SuitedLemmas.{few_lines, schedules_suited}
 
 -- ---- what is replayed
 -- a node that opens keeps at least one reply
@@ -108,23 +120,23 @@ worked_of s served kept w is stands = record {
 }
 
 -- ---- an output
-module _ (command : Option Command) (before after : Outside) (reads : NoneFailed before.read_faults after.read_faults) (output : Output) (asks : Asks command before.left after.left output) (final : IsFinal output.status) where
+module _ (command : Option Command) (before after : Streams) (reads : NoneFailed before.read_faults after.read_faults) (output : Output) (asks : Asks command before.left after.left output) (final : IsFinal output.status) where
   abbrev Said : Status → Type 0
   Said st = Says output before.written after.written before.write_faults after.write_faults st
 
   -- an output that was written, or of which a front was
-  pub says_ends : (st : Status) → Said st → Ends command before after st
+  pub says_ends : (st : Status) → Said st → EndsInText command before after st
   says_ends st (inl (is, added, writes)) =
-      subst (Ends command before after) (sym is)
+      subst (EndsInText command before after) (sym is)
       (wrote_ends command before after output.status final (record { reads = reads; writes = writes; output = output; asks = asks; status = refl; added = added }))
-  says_ends st (inr (is, front, failed)) = subst (Ends command before after) (sym is) (failed, reads, output, asks, front)
+  says_ends st (inr (is, front, failed)) = subst (EndsInText command before after) (sym is) (failed, reads, output, asks, front)
 
 -- nothing is left behind an output that tells why a command was refused
 abbrev pub IsRefusal : Status → Type 0
 IsRefusal status.Ok = ⊥
 IsRefusal other = IsFinal other
 
-refusal_keeps : (command : Option Command) (before after : Outside) (kept : Left) (st : Status) → IsRefusal st → kept ≡ left.Nothing → Keeps command before after kept st
+refusal_keeps : (command : Option Command) (before after : Streams) (kept : Left) (st : Status) → IsRefusal st → kept ≡ left.Nothing → KeepsInText command before after kept st
 refusal_keeps command before after kept status.BadWords refusal nothing = nothing
 refusal_keeps command before after kept status.BadInput refusal nothing = nothing
 refusal_keeps command before after kept status.NotRun refusal nothing = nothing
@@ -134,11 +146,13 @@ refusal_keeps command before after kept status.Ok refusal nothing = absurd refus
 refusal_keeps command before after kept status.ReadFault refusal nothing = absurd refusal
 refusal_keeps command before after kept status.WriteFault refusal nothing = absurd refusal
 refusal_keeps command before after kept status.NoMemory refusal nothing = absurd refusal
+refusal_keeps command before after kept status.WireFault refusal nothing = absurd refusal
+refusal_keeps command before after kept status.Stalled refusal nothing = absurd refusal
 
-pub says_keeps : (command : Option Command) (before after : Outside) (kept : Left) (output : Output) → IsRefusal output.status → kept ≡ left.Nothing
-    → (st : Status) → Says output before.written after.written before.write_faults after.write_faults st → Keeps command before after kept st
-says_keeps command before after kept output refusal nothing st (inl (is, added, writes)) = subst (Keeps command before after kept) (sym is) (refusal_keeps command before after kept output.status refusal nothing)
-says_keeps command before after kept output refusal nothing st (inr (is, front, failed)) = subst (Keeps command before after kept) (sym is) nothing
+pub says_keeps : (command : Option Command) (before after : Streams) (kept : Left) (output : Output) → IsRefusal output.status → kept ≡ left.Nothing
+    → (st : Status) → Says output before.written after.written before.write_faults after.write_faults st → KeepsInText command before after kept st
+says_keeps command before after kept output refusal nothing st (inl (is, added, writes)) = subst (KeepsInText command before after kept) (sym is) (refusal_keeps command before after kept output.status refusal nothing)
+says_keeps command before after kept output refusal nothing st (inr (is, front, failed)) = subst (KeepsInText command before after kept) (sym is) nothing
 
 -- ---- a replay
 -- a refusal of these bytes
@@ -158,24 +172,26 @@ refusal_final status.Ok refusal = absurd refusal
 refusal_final status.ReadFault refusal = absurd refusal
 refusal_final status.WriteFault refusal = absurd refusal
 refusal_final status.NoMemory refusal = absurd refusal
+refusal_final status.WireFault refusal = absurd refusal
+refusal_final status.Stalled refusal = absurd refusal
 
-pub refused_serves : (before after : Outside) (kept : Left) (output : Output) → IsWantedOf before.left after.left (wanted.Refused output)
+pub refused_serves : (before after : Streams) (kept : Left) (output : Output) → IsWantedOf before.left after.left (wanted.Refused output)
     → NoneFailed before.read_faults after.read_faults → kept ≡ left.Nothing
-    → (st : Status) → Says output before.written after.written before.write_faults after.write_faults st → Serves (Some Replay) before after kept st
+    → (st : Status) → Says output before.written after.written before.write_faults after.write_faults st → ServesInText (Some Replay) before after kept st
 refused_serves before after kept output (bytes, gave, refuses) reads nothing st says =
     let refusal = replay_refusal bytes output refuses in
     record {
-      ends = says_ends (Some Replay) before after reads output (bytes, gave, refused_answers Schedule schedule_of schedule_node AsksTranscript bytes output refuses) (refusal_final output.status refusal) st says;
+      ends = says_ends (Some Replay) before after reads output (bytes, gave, refused_answers Schedule schedule_of schedule_fault AsksTranscript bytes output refuses) (refusal_final output.status refusal) st says;
       keeps = says_keeps (Some Replay) before after kept output refusal nothing st says;
     }
 
 -- a schedule that was played, by the output that its command asks for
-module _ (command : Option Command) (before after : Outside) (s : Schedule) (kept : Left) (output : Output) (asks : Asks command before.left after.left output) (ok : output.status ≡ status.Ok)
-    (reads : NoneFailed before.read_faults after.read_faults) (succeeds : Added output.text before.written after.written → (w : Running) → kept ≡ left.Replayed w → StandsFor s.config s.events w → Succeeds command before after kept) where
+module _ (command : Option Command) (before after : Streams) (s : Schedule) (kept : Left) (output : Output) (asks : Asks command before.left after.left output) (ok : output.status ≡ status.Ok)
+    (reads : NoneFailed before.read_faults after.read_faults) (succeeds : Added output.text before.written after.written → (w : Running) → kept ≡ left.Replayed w → StandsFor s.config s.events w → SucceedsInText command before after kept) where
   abbrev Played : Status → Type 0
   Played st = Plays s output.text before.written after.written before.write_faults after.write_faults kept st
 
-  pub plays_serve : (st : Status) → Played st → Serves command before after kept st
+  pub plays_serve : (st : Status) → Played st → ServesInText command before after kept st
   plays_serve status.Ok (added, writes, w, is, stands) = record { ends = (reads, writes, output, asks, ok, added); keeps = succeeds added w is stands }
   plays_serve status.WriteFault (front, failed, nothing) = record { ends = (failed, reads, output, asks, front); keeps = nothing }
   plays_serve status.NoMemory (front, writes, nothing) = record { ends = (reads, writes, inr (output, asks, front)); keeps = nothing }
@@ -185,10 +201,12 @@ module _ (command : Option Command) (before after : Outside) (s : Schedule) (kep
   plays_serve status.NotRun never = absurd never
   plays_serve status.TooLong never = absurd never
   plays_serve status.BadNode never = absurd never
+  plays_serve status.WireFault never = absurd never
+  plays_serve status.Stalled never = absurd never
 
-pub opened_serves : (before after : Outside) (kept : Left) (s : Schedule) (w : Running) → IsWantedOf before.left after.left (wanted.Opened s w)
+pub opened_serves : (before after : Streams) (kept : Left) (s : Schedule) (w : Running) → IsWantedOf before.left after.left (wanted.Opened s w)
     → NoneFailed before.read_faults after.read_faults
-    → (st : Status) → Plays s (transcript s) before.written after.written before.write_faults after.write_faults kept st → Serves (Some Replay) before after kept st
+    → (st : Status) → Plays s (transcript s) before.written after.written before.write_faults after.write_faults kept st → ServesInText (Some Replay) before after kept st
 opened_serves before after kept s w (bytes, input, replayable, opened) reads =
     plays_serve (Some Replay) before after s kept (record { text = transcript s; status = status.Ok }) (bytes, inl input, OnValue s replayable refl) refl reads
     (λ added v is stands. record {
@@ -201,23 +219,23 @@ opened_serves before after kept s w (bytes, input, replayable, opened) reads =
     })
 
 -- ---- a storm
-pub storm_serves : (seed calls : ℕ) → IsServed (generated seed calls) → (before after : Outside) (kept : Left) → after.left ≡ before.left → NoneFailed before.read_faults after.read_faults
+pub storm_serves : (seed calls : ℕ) → IsServed (generated seed calls) → (before after : Streams) (kept : Left) → after.left ≡ before.left → NoneFailed before.read_faults after.read_faults
     → (st : Status) → Plays (generated seed calls) (storm_output seed calls).text before.written after.written before.write_faults after.write_faults kept st
-    → Serves (Some (Storm seed calls)) before after kept st
+    → ServesInText (Some (Storm seed calls)) before after kept st
 storm_serves seed calls served before after kept unread reads =
     plays_serve (Some (Storm seed calls)) before after (generated seed calls) kept (storm_output seed calls) (unread, refl) refl reads
     (λ added v is stands. record { unread = unread; printed = added; worked = worked_of (generated seed calls) served kept v is stands })
 
 -- ---- a check
-module _ (before after : Outside) (output : Output) (asks : Asks (Some Check) before.left after.left output) (reads : NoneFailed before.read_faults after.read_faults) where
+module _ (before after : Streams) (output : Output) (asks : Asks (Some Check) before.left after.left output) (reads : NoneFailed before.read_faults after.read_faults) where
   check_final : IsFinal output.status
-  check_final = answers_final History history_of history_node AsksVerdict asks.0 output (λ h. history_answer h output) asks.2
+  check_final = answers_final History history_of history_fault AsksVerdict asks.0 output (λ h. history_answer h output) asks.2
 
   -- with success the history was a run, to its last byte
   checks_of : output.status ≡ status.Ok → Added output.text before.written after.written → Checks before after left.Nothing
   checks_of ok added = by asks.1 where
     asked : (h : History) × IsCheckable asks.0 h × AsksVerdict h output
-    asked = is_asked History history_of history_node AsksVerdict asks.0 output (λ h. history_answer h output) status.Ok tt asks.2 ok
+    asked = is_asked History history_of history_fault AsksVerdict asks.0 output (λ h. history_answer h output) status.Ok tt asks.2 ok
 
     run : asked.2.0 ≡ verdict.Run
     run = run_of asked.0 asked.2.0 asked.2.1 (sym (status_is asked.2.2) ∙ ok)
@@ -234,7 +252,7 @@ module _ (before after : Outside) (output : Output) (asks : Asks (Some Check) be
     }
     by (inr many) = absurd (none_some (too_long_of asks.0) _ asked.1.short (let count = many.count in many_long asks.0 (omega (arith, count))))
 
-  keeps : (st : Status) → IsFinal st → output.status ≡ st → Added output.text before.written after.written → Keeps (Some Check) before after left.Nothing st
+  keeps : (st : Status) → IsFinal st → output.status ≡ st → Added output.text before.written after.written → KeepsInText (Some Check) before after left.Nothing st
   keeps status.Ok final is added = checks_of is added
   keeps status.BadWords final is added = refl
   keeps status.BadInput final is added = refl
@@ -244,12 +262,14 @@ module _ (before after : Outside) (output : Output) (asks : Asks (Some Check) be
   keeps status.ReadFault final is added = absurd final
   keeps status.WriteFault final is added = absurd final
   keeps status.NoMemory final is added = absurd final
+  keeps status.WireFault final is added = absurd final
+  keeps status.Stalled final is added = absurd final
 
-  pub checked_serves : (st : Status) → Says output before.written after.written before.write_faults after.write_faults st → Serves (Some Check) before after left.Nothing st
+  pub checked_serves : (st : Status) → Says output before.written after.written before.write_faults after.write_faults st → ServesInText (Some Check) before after left.Nothing st
   checked_serves st says = record { ends = says_ends (Some Check) before after reads output asks check_final st says; keeps = by says } where
-    by : Says output before.written after.written before.write_faults after.write_faults st → Keeps (Some Check) before after left.Nothing st
-    by (inl (is, added, writes)) = subst (Keeps (Some Check) before after left.Nothing) (sym is) (keeps output.status check_final refl added)
-    by (inr (is, front, failed)) = subst (Keeps (Some Check) before after left.Nothing) (sym is) refl
+    by : Says output before.written after.written before.write_faults after.write_faults st → KeepsInText (Some Check) before after left.Nothing st
+    by (inl (is, added, writes)) = subst (KeepsInText (Some Check) before after left.Nothing) (sym is) (keeps output.status check_final refl added)
+    by (inr (is, front, failed)) = subst (KeepsInText (Some Check) before after left.Nothing) (sym is) refl
 
 -- ---- what was taken off the source
 module _ (before after : Option (List ℕ)) where
@@ -270,28 +290,127 @@ module _ (before after : Option (List ℕ)) where
   many_checked bytes output many is = (bytes, inr many, OnLong (long.TooLong true (INPUT_BYTES + 1), long_of bytes many) is)
 
 -- ---- words
-pub words_serve : (command : Option Command) (before after : Outside) (kept : Left) → is_built_command command ≡ false → after.left ≡ before.left → NoneFailed before.read_faults after.read_faults
-    → kept ≡ left.Nothing → (st : Status) → Says bad_words before.written after.written before.write_faults after.write_faults st → Serves command before after kept st
-words_serve command before after kept never unread reads nothing st says = record {
-  ends = says_ends command before after reads bad_words (asks command never) tt st says;
-  keeps = says_keeps command before after kept bad_words tt nothing st says;
-} where
-  asks : (c : Option Command) → is_built_command c ≡ false → Asks c before.left after.left bad_words
-  asks (Some Replay) never = grind arith
-  asks (Some Check) never = grind arith
-  asks (Some (Storm seed calls)) never = grind arith
-  asks (Some (commands.Serve port config frames idles)) never = (unread, refl)
-  asks (Some (Drive port client pid)) never = (unread, refl)
-  asks None never = (unread, refl)
+-- words that are no command
+pub words_serve : (before after : Streams) (kept : Left) → after.left ≡ before.left → NoneFailed before.read_faults after.read_faults
+    → kept ≡ left.Nothing → (st : Status) → Says bad_words before.written after.written before.write_faults after.write_faults st → ServesInText None before after kept st
+words_serve before after kept unread reads nothing st says = record {
+  ends = says_ends None before after reads bad_words (unread, refl) tt st says;
+  keeps = says_keeps None before after kept bad_words tt nothing st says;
+}
 
 -- ---- an input that was not judged
-module _ (command : Option Command) (before after : Outside) (kept : Left) (reads_it : reads_input command ≡ true) (unwritten : after.written ≡ before.written) (writes : NoneFailed before.write_faults after.write_faults)
+module _ (command : Option Command) (before after : Streams) (kept : Left) (reads_it : reads_input command ≡ true) (unwritten : after.written ≡ before.written) (writes : NoneFailed before.write_faults after.write_faults)
     (nothing : kept ≡ left.Nothing) where
-  pub fault_serves : LastFailed before.read_faults after.read_faults → TookUpTo INPUT_BYTES before.left after.left → Serves command before after kept status.ReadFault
+  pub fault_serves : LastFailed before.read_faults after.read_faults → TookUpTo INPUT_BYTES before.left after.left → ServesInText command before after kept status.ReadFault
   fault_serves failed taken = record { ends = (reads_it, failed, unwritten, writes, taken); keeps = nothing }
 
-  pub memory_serves : NoneFailed before.read_faults after.read_faults → TookUpTo (INPUT_BYTES + 1) before.left after.left → Serves command before after kept status.NoMemory
+  pub memory_serves : NoneFailed before.read_faults after.read_faults → TookUpTo (INPUT_BYTES + 1) before.left after.left → ServesInText command before after kept status.NoMemory
   memory_serves reads taken = record {
     ends = (reads, writes, inl (unwritten, subst (λ b. TakesBy b (INPUT_BYTES + 1) before.left after.left) (sym reads_it) taken));
     keeps = nothing;
   }
+
+-- ---- a script
+-- a refusal of these bytes
+script_refusal : (bytes : List ℕ) (output : Output) → RefusesScript bytes output → IsRefusal output.status
+script_refusal bytes output (OnLong long is) = subst IsRefusal (sym (status_is is)) tt
+script_refusal bytes output (OnBadLine refused is) = subst IsRefusal (sym (status_is is)) tt
+script_refusal bytes output (OnBadNode bad is) = subst IsRefusal (sym (status_is is)) tt
+script_refusal bytes output (OnValue value encoded asked) = absurd asked
+
+pub unscripted_serves : (port : ℕ) (client : ClientNo) (pid : ℕ) (before after : Streams) (kept : Left) (output : Output) → IsScriptedOf before.left after.left (wanted_script.Refused output)
+    → NoneFailed before.read_faults after.read_faults → kept ≡ left.Nothing
+    → (st : Status) → Says output before.written after.written before.write_faults after.write_faults st → ServesInText (Some (Drive port client pid)) before after kept st
+unscripted_serves port client pid before after kept output (bytes, gave, refuses) reads nothing st says =
+    let refusal = script_refusal bytes output refuses in
+    record {
+      ends = says_ends (Some (Drive port client pid)) before after reads output (bytes, gave, refuses) (refusal_final output.status refusal) st says;
+      keeps = says_keeps (Some (Drive port client pid)) before after kept output refusal nothing st says;
+    }
+
+module _ (before after : Option (List ℕ)) where
+  pub whole_scripted : (bytes seen : List ℕ) (w : WantedScript) → IsInput bytes before after → seen ≡ bytes → IsScriptedBy seen w → IsScriptedOf before after w
+  whole_scripted bytes seen (wanted_script.Refused output) input same refuses = (bytes, inl input, subst (λ bytes. RefusesScript bytes output) same refuses)
+  whole_scripted bytes seen (wanted_script.Scripted script) input same scripted = (bytes, input, subst (λ bytes. IsScript bytes script.calls) same scripted)
+
+  pub many_scripted : (bytes : List ℕ) (output : Output) → IsTooMany bytes before after → output ≡ too_long_output (long.TooLong true (INPUT_BYTES + 1)) → IsScriptedOf before after (wanted_script.Refused output)
+  many_scripted bytes output many is = (bytes, inr many, OnLong (long.TooLong true (INPUT_BYTES + 1), long_of before after bytes many) is)
+
+-- ---- with a wire and a clock
+-- a command that asks for an output lets them be
+pub in_text : (command : Option Command) (before after : Outside) (kept : Left) (st : Status) → after.network ≡ before.network
+    → ServesInText command before.streams after.streams kept st → Serves command before after kept st
+in_text command before after kept st network serves = record { ends = InText network serves.ends; keeps = by st serves.keeps } where
+  succeeds : (command : Option Command) → SucceedsInText command before.streams after.streams kept → Succeeds command before after kept
+  succeeds (Some Replay) done = done
+  succeeds (Some Check) done = done
+  succeeds (Some (Storm seed calls)) done = done
+  succeeds (Some (commands.Serve port config frames idles)) done = absurd done
+  succeeds (Some (Drive port client pid)) done = absurd done
+  succeeds None done = done
+
+  by : (st : Status) → KeepsInText command before.streams after.streams kept st → Keeps command before after kept st
+  by status.Ok keeps = succeeds command keeps
+  by status.BadWords keeps = keeps
+  by status.BadInput keeps = keeps
+  by status.ReadFault keeps = keeps
+  by status.WriteFault keeps = keeps
+  by status.NoMemory keeps = keeps
+  by status.WireFault keeps = keeps
+  by status.NotRun keeps = keeps
+  by status.TooLong keeps = keeps
+  by status.Stalled keeps = keeps
+  by status.BadNode keeps = keeps
+
+-- a node that was served
+pub node_serves : (n : NodeNumbers) (before after : Outside) (kept : Left) (st : Status) → IsUnread before.streams after.streams
+    → ServesNode n (wired_of before) (wired_of after) kept st → Serves (Some (commands.Serve n.port n.config n.frames n.idles)) before after kept st
+node_serves n before after kept st unread served = record {
+  ends = OnNode n refl unread served.how served.is served.ends;
+  keeps = subst (Keeps (Some (commands.Serve n.port n.config n.frames n.idles)) before after kept) (sym served.is) (by served.how served.keeps served.ends);
+} where
+  by : (how : NodeEnd) → kept ≡ node_left how → NodeEnds n (wired_of before) (wired_of after) how → Keeps (Some (commands.Serve n.port n.config n.frames n.idles)) before after kept (node_status how)
+  by (node_end.Served node) keeps ends = (node, keeps, ends)
+  by node_end.BadNode keeps ends = keeps
+  by node_end.WireFault keeps ends = keeps
+  by node_end.WriteFault keeps ends = keeps
+  by node_end.NoMemory keeps ends = keeps
+
+-- a client that was driven through a script that was read
+pub client_serves : (port : ℕ) (client : ClientNo) (pid : ℕ) (calls : Calls) (before after : Outside) (kept : Left) (st : Status) → TookScript calls before.streams after.streams
+    → DrivesClient (task_of port client pid calls) (wired_of before) (wired_of after) kept st → Serves (Some (Drive port client pid)) before after kept st
+client_serves port client pid calls before after kept st took driven = record {
+  ends = OnScript port client pid refl calls took driven.how driven.is driven.ends;
+  keeps = subst (Keeps (Some (Drive port client pid)) before after kept) (sym driven.is) (by driven.how driven.keeps driven.ends);
+} where
+  by : (how : ClientEnd) → kept ≡ client_left how → ClientEnds (task_of port client pid calls) (wired_of before) (wired_of after) how → Keeps (Some (Drive port client pid)) before after kept (client_status how)
+  by (client_end.Driven end) keeps ends = (calls, took, (end, keeps, ends))
+  by client_end.Stalled keeps ends = keeps
+  by client_end.WireFault keeps ends = keeps
+  by client_end.WriteFault keeps ends = keeps
+  by client_end.NoMemory keeps ends = keeps
+
+-- ---- a script that is short
+-- as many calls as lines, or fewer
+few_calls : (n : ℕ) (lines : List Text) (calls : Calls) → script_from n lines ≡ Ok calls → length calls ≤ length lines
+few_calls n [] calls is = subst (λ (cs : Calls). length cs ≤ 0) (ok_is [] calls is) (omega arith)
+few_calls n (line ∷ lines) calls is = let most : length calls ≤ length lines + 1 = by (is_skipped line) (few_calls (n + 1) lines) is in omega (arith, most) where
+  more : (o : Result CallText What) (rest : Result Calls Fault) → script_from (n + 1) lines ≡ rest → ((others : Calls) → script_from (n + 1) lines ≡ Ok others → length others ≤ length lines)
+      → script_more n o rest ≡ Ok calls → length calls ≤ length lines + 1
+  more (Err what) rest same fewer is = absurd (no_ok (n, what) calls is)
+  more (Ok call) (Err fault) same fewer is = absurd (no_ok fault calls is)
+  more (Ok call) (Ok others) same fewer is =
+      let few : length others ≤ length lines = fewer others same in
+      subst (λ (cs : Calls). length cs ≤ length lines + 1) (ok_is ((n, call) ∷ others) calls is) (omega (arith, few))
+
+  by : (b : Bool) → ((others : Calls) → script_from (n + 1) lines ≡ Ok others → length others ≤ length lines)
+      → ◌≡◌ {A = Result Calls Fault} (elim b [ true ↦ script_from (n + 1) lines | false ↦ script_more n (script_line line) (script_from (n + 1) lines) ]) (Ok calls) → length calls ≤ length lines + 1
+  by true fewer is = let few = fewer calls is in omega (arith, few)
+  by false fewer is = more (script_line line) (script_from (n + 1) lines) refl fewer is
+
+-- a script within the limits has no more calls than an input has lines
+pub script_is_short : (bytes : List ℕ) (calls : Calls) → IsScript bytes calls → length calls ≤ INPUT_LINES
+script_is_short bytes calls script =
+    let fewer = few_calls 1 (lines_in bytes) calls script.encoded in
+    let lines = few_lines bytes script.short in
+    omega (arith, fewer, lines)

@@ -150,7 +150,7 @@ from_suits (line ∷ lines) n r s k is = step (line_read r n line) refl is (λ m
       subst (λ m. Suited m s) same (rest more (read_suits n r line k more read) is)
 
 -- ---- lines within the limits
-few_lines : (bytes : List ℕ) → too_long_of bytes ≡ None → length (lines_in bytes) ≤ INPUT_LINES
+pub few_lines : (bytes : List ℕ) → too_long_of bytes ≡ None → length (lines_in bytes) ≤ INPUT_LINES
 few_lines bytes short = go (nat_lt INPUT_BYTES (length bytes)) (nat_lt INPUT_LINES (length (lines_in bytes))) refl short where
   go : (a b : Bool) → nat_lt INPUT_LINES (length (lines_in bytes)) ≡ b
       → ◌≡◌ {A = Option ScheduleFault} (if a then Some (TooLong true (INPUT_BYTES + 1)) else if b then Some (TooLong false (INPUT_LINES + 1)) else None) None → length (lines_in bytes) ≤ INPUT_LINES

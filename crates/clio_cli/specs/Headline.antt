@@ -4,9 +4,16 @@ use Rattle.std.specs.List.{AllByRecursion as Each}
 use Rattle.cl_outside.specs.Told.{Added}
 use Rattle.cl_types.specs.declared.config.Config.{Config}
 use Rattle.cl_types.specs.declared.schedule.Schedule.{Schedule}
+use Rattle.client_command.specs.Ends.{ClientEnds, Task, task_of}
+use Rattle.client_command.specs.declared.ends.ClientEnd.TheVariants as client_end
+use Rattle.client_model.specs.Client.{ClientState}
+use Rattle.node_command.specs.Ends.{NodeEnds, NodeNumbers, numbers}
+use Rattle.node_command.specs.declared.node_end.NodeEnd.TheVariants as node_end
+use Rattle.node_core.specs.Keeping.{KeptNode}
+use Rattle.wire_loop.specs.Wired.{Wired}
 use Rattle.trace.specs.Account.{Account, Frame}
 use Rattle.trace.specs.Events.{account, account_of_latest}
-use Rattle.texts.specs.Commands.{Command, Replay, Check, Storm, command_in}
+use Rattle.texts.specs.Commands.{Command, Replay, Check, Storm, Serve, Drive, command_in}
 use Rattle.texts.specs.Grammar.{schedule_of}
 use Rattle.texts.specs.Text.{Text}
 use Rattle.trace.specs.Properties.{Once, Ordered, Peeks, Stands}
@@ -17,8 +24,8 @@ use Rattle.storm_gen.specs.Generated.{generated}
 use Rattle.trace_laws.specs.Spelled.{SpellsLoad}
 use Rattle.trace_laws.specs.Times.{AreOfAge}
 use Rattle.trace_texts.specs.Transcripts.{transcript}
-use Rattle.clio_cli.specs.Outputs.{History, IsCheckable, IsReplayable, storm_output, verdict_output}
-use Rattle.clio_cli.specs.Run.{IsInput, Outside}
+use Rattle.clio_cli.specs.Outputs.{Calls, History, IsCheckable, IsReplayable, storm_output, verdict_output}
+use Rattle.clio_cli.specs.Run.{IsInput, Outside, Streams, TookScript, wired_of}
 use Rattle.clio_cli.specs.Status.{number_of}
 use Rattle.world.specs.Follows.{StandsFor}
 use Rattle.world.specs.Running.{Running}
@@ -60,7 +67,7 @@ pub record Worked (s : Schedule) (kept : Left) : Type 0 where
   pub stands : StandsFor s.config s.events world
 
 -- the transcript of the schedule that the input encodes was written, whole, and its events were worked
-pub record Replays (before after : Outside) (kept : Left) : Type 0 where
+pub record Replays (before after : Streams) (kept : Left) : Type 0 where
   pub bytes : List ℕ
   pub input : IsInput bytes before.left after.left
   pub schedule : Schedule
@@ -69,7 +76,7 @@ pub record Replays (before after : Outside) (kept : Left) : Type 0 where
   pub worked : Worked schedule kept
 
 -- the history that the input encodes is a run, which was written, and nothing is left
-pub record Checks (before after : Outside) (kept : Left) : Type 0 where
+pub record Checks (before after : Streams) (kept : Left) : Type 0 where
   pub bytes : List ℕ
   pub input : IsInput bytes before.left after.left
   pub history : History
@@ -79,17 +86,33 @@ pub record Checks (before after : Outside) (kept : Left) : Type 0 where
   pub left : kept ≡ left.Nothing
 
 -- what the generated schedule comes to was written, whole, its events were worked, and the source was left
-pub record Storms (seed calls : ℕ) (before after : Outside) (kept : Left) : Type 0 where
+pub record Storms (seed calls : ℕ) (before after : Streams) (kept : Left) : Type 0 where
   pub unread : after.left ≡ before.left
   pub printed : Added (storm_output seed calls).text before.written after.written
   pub worked : Worked (generated seed calls) kept
 
+-- with success this came about, by a command that asks for an output
+abbrev pub SucceedsInText : Option Command → Streams → Streams → Left → Type 0
+SucceedsInText (Some Replay) before after kept = Replays before after kept
+SucceedsInText (Some Check) before after kept = Checks before after kept
+SucceedsInText (Some (Storm seed calls)) before after kept = Storms seed calls before after kept
+SucceedsInText other before after kept = ⊥
+
+-- the node of these numbers was served to its end, and is left
+abbrev pub KeepsNode : NodeNumbers → Wired → Wired → Left → Type 0
+KeepsNode n before after kept = (node : KeptNode) × (kept ≡ left.Served node) × NodeEnds n before after (node_end.Served node)
+
+-- the client of this task was driven to the end of its script, and is left
+abbrev pub KeepsClient : Task → Wired → Wired → Left → Type 0
+KeepsClient t before after kept = (client : ClientState) × (kept ≡ left.Driven client) × ClientEnds t before after (client_end.Driven client)
+
 -- with success this came about, by the command
 abbrev pub Succeeds : Option Command → Outside → Outside → Left → Type 0
-Succeeds (Some Replay) before after kept = Replays before after kept
-Succeeds (Some Check) before after kept = Checks before after kept
-Succeeds (Some (Storm seed calls)) before after kept = Storms seed calls before after kept
-Succeeds other before after kept = ⊥
+Succeeds (Some (Serve port config frames idles)) before after kept =
+    KeepsNode (numbers port config frames idles) (wired_of before) (wired_of after) kept
+Succeeds (Some (Drive port client pid)) before after kept =
+    (calls : Calls) × TookScript calls before.streams after.streams × KeepsClient (task_of port client pid calls) (wired_of before) (wired_of after) kept
+Succeeds command before after kept = SucceedsInText command before.streams after.streams kept
 
 -- the same, of a command line and the number of its status
 abbrev pub EndsInHeadline : List Text → Outside → Outside → Left → ℕ → Type 0

@@ -1,12 +1,10 @@
-//! The lines that tell why an input was refused.
+//! The line that says why an input was refused.
 
 ghost use Rattle.std.specs.Prelude.{◌≡◌, IfOk};
 ghost use Rattle.std.specs.String.{string_bytes};
-ghost use Rattle.texts.specs.Texts.{fault_line, number_text, open_fault_line, what_text};
+ghost use Rattle.texts.specs.Texts.{fault_line, what_text};
 
-use cl_types::config::Field;
 use cl_types::items::NoMemory;
-use cl_types::open_fault::OpenFault;
 use cl_types::schedule::What;
 use std::alloc::Global;
 
@@ -44,33 +42,4 @@ pub fn line_fault(alloc: Global, number: u32, what: What) -> Result<String, NoMe
 {
     let what = what_name(what);
     Ok(format!(in alloc; "line {number}: {what}\n")?)
-}
-
-fn number_name(field: Field) -> &'static str
-    ensures { result.now ≡ number_text field }
-{
-    match field {
-        Field::Pages => "pages",
-        Field::Buckets => "buckets",
-        Field::Ring => "ring",
-        Field::Retry => "retry",
-        Field::Offloads => "offloads",
-        Field::Records => "records",
-    }
-}
-
-/// The line that tells why a node doesn't open, and nothing for want of memory.
-pub fn node_fault(alloc: Global, fault: OpenFault) -> Result<String, NoMemory>
-    ensures { IfOk result (λ text. string_bytes text ≡ open_fault_line fault) }
-{
-    match fault {
-        OpenFault::BadConfig { field, value } => {
-            let name = number_name(field);
-            Ok(format!(in alloc; "bad node: {name} {value}\n")?)
-        }
-        OpenFault::NoRoom { offload, pages } => {
-            Ok(format!(in alloc; "bad node: offload {offload} pages {pages}\n")?)
-        }
-        OpenFault::NoMemory => Ok(String::new(alloc)),
-    }
 }

@@ -8,9 +8,9 @@ ghost use Rattle.transcript_text.specs.HistoryGrammar.{history_of};
 ghost use Rattle.world.specs.Follows.{opened};
 ghost use Rattle.world.specs.Running.{HaveNumbersApart};
 ghost use Rattle.clio_cli.specs.Outputs.{AnswersCheck, bad_line_output, bad_node_output, too_long_output, verdict_output};
-ghost use Rattle.clio_cli.specs.Wanted.{IsJudged, IsOpened, IsWantedBy};
+ghost use Rattle.clio_cli.specs.Wanted.{IsJudged, IsOpened, IsRefusalOf, IsWantedBy};
 
-use crate::faults::{line_fault, node_fault};
+use crate::faults::line_fault;
 use crate::status::Status;
 use cl_types::config::Config;
 use cl_types::items::{Bytes, NoMemory};
@@ -19,6 +19,7 @@ use cl_types::line::{Entry, EntryList};
 use cl_types::open_fault::OpenFault;
 use cl_types::schedule::{Schedule, What};
 use history_check::{CheckFault, Verdict, check};
+use node_command::refusal_text;
 use schedule_text::{ScheduleFault, read};
 use std::alloc::Global;
 use transcript_text::read_history;
@@ -74,11 +75,22 @@ pub fn too_many(alloc: Global) -> Result<Output, NoMemory>
     too_long(alloc, true, INPUT_BYTES as u32 + 1)
 }
 
+/// The output on an input that could not be read.
+pub fn refuse(alloc: Global, fault: ScheduleFault) -> Result<Output, NoMemory>
+    ensures { IfOk result (IsRefusalOf fault) }
+{
+    match fault {
+        ScheduleFault::Line { number, what } => bad_line(alloc, number, what),
+        ScheduleFault::TooLong { bytes, number } => too_long(alloc, bytes, number),
+        ScheduleFault::NoMemory => Err(NoMemory),
+    }
+}
+
 /// The output on a node that doesn't open.
 fn bad_node(alloc: Global, fault: OpenFault) -> Result<Output, NoMemory>
     ensures { IfOk result (λ output. output ≡ bad_node_output fault) }
 {
-    let text = node_fault(alloc, fault)?;
+    let text = refusal_text(alloc, fault)?;
     output_of(alloc, text.as_bytes(), Status::BadNode)
 }
 
@@ -114,13 +126,7 @@ pub fn judge(alloc: Global, bytes: &[u8]) -> Result<Wanted, NoMemory>
 {
     match read(alloc, bytes) {
         Ok(schedule) => judge_schedule(alloc, schedule),
-        Err(ScheduleFault::Line { number, what }) => {
-            Ok(Wanted::Refused(bad_line(alloc, number, what)?))
-        }
-        Err(ScheduleFault::TooLong { bytes, number }) => {
-            Ok(Wanted::Refused(too_long(alloc, bytes, number)?))
-        }
-        Err(ScheduleFault::NoMemory) => Err(NoMemory),
+        Err(fault) => Ok(Wanted::Refused(refuse(alloc, fault)?)),
     }
 }
 
@@ -166,8 +172,6 @@ pub fn judge_history(alloc: Global, bytes: Vec<u8>) -> Result<Output, NoMemory>
 {
     match read_back(alloc, bytes) {
         Ok((config, entries)) => judge_entries(alloc, &config, entries.as_slice()),
-        Err(ScheduleFault::Line { number, what }) => bad_line(alloc, number, what),
-        Err(ScheduleFault::TooLong { bytes, number }) => too_long(alloc, bytes, number),
-        Err(ScheduleFault::NoMemory) => Err(NoMemory),
+        Err(fault) => refuse(alloc, fault),
     }
 }

@@ -8,7 +8,7 @@ ghost use Rattle.clio_cli.specs.Status.{number_of};
 pub enum Status {
     /// The input was read to its end, and all was written.
     Ok,
-    /// The words are no command that is built.
+    /// The words are no command.
     BadWords,
     /// The input is not in the command's grammar.
     BadInput,
@@ -18,10 +18,14 @@ pub enum Status {
     WriteFault,
     /// An allocation failed. A prefix of the output was written.
     NoMemory,
+    /// A bind, a receive or a send failed.
+    WireFault,
     /// The history that was checked is no run.
     NotRun,
     /// The input has too many bytes or lines.
     TooLong,
+    /// A driven client had 1,000,000 fruitless turns in a row.
+    Stalled,
     /// The node doesn't open.
     BadNode,
 }
@@ -38,8 +42,10 @@ impl Status {
             Status::ReadFault => 3,
             Status::WriteFault => 4,
             Status::NoMemory => 5,
+            Status::WireFault => 6,
             Status::NotRun => 7,
             Status::TooLong => 8,
+            Status::Stalled => 9,
             Status::BadNode => 10,
         }
     }

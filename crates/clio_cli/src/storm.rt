@@ -1,12 +1,17 @@
 //! A storm: a generated schedule is replayed without its lines, its history is checked, and what it came to is written.
 
-ghost use Rattle.std.specs.Prelude.{◌≡◌, ◌≤◌, ◌^◌, ◌<◌, ◌++◌, IfOk, None, OnOk, length};
+ghost use Rattle.std.specs.Prelude.{◌≡◌, ◌≤◌, ◌^◌, ◌<◌, ◌++◌, ◌∷◌, [], List, ℕ, IfOk, None, OnOk, length};
+ghost use Rattle.cl_types.specs.declared.config.Config.{Config as Configuration};
+ghost use Rattle.cl_types.specs.declared.limits.TheConstants.{LINES_END};
+ghost use Rattle.cl_types.specs.declared.schedule.Event.{Event as Happening};
 ghost use Rattle.flat_model.specs.Opening.{open_fault};
 ghost use Rattle.flat_model.specs.Run.{IsRun};
 ghost use Rattle.storm_gen.specs.Generated.{generated};
 ghost use Rattle.storm_gen.specs.SummaryTexts.{count_line, summary_text};
 ghost use Rattle.storm_gen.specs.declared.limits.TheConstants.{MOST_CALLS};
+ghost use Rattle.trace.specs.Schedules.{IsGood};
 ghost use Rattle.world.specs.Follows.{StandsFor, opened};
+ghost use Rattle.world.specs.Running.{IsFair};
 ghost use Rattle.clio_cli.specs.Outputs.{storm_output};
 ghost use Rattle.clio_cli.specs.Replay.{IsServed, Plays};
 
@@ -17,10 +22,25 @@ use cl_outside::{Sink, write_all};
 use cl_types::config::Config;
 use cl_types::items::{Bytes, NoMemory};
 use cl_types::line::{Entry, Summary};
-use cl_types::schedule::Schedule;
+use cl_types::schedule::{Event, Schedule};
 use history_check::{CheckFault, Verdict, check};
 use std::alloc::Global;
 use world::World;
+
+// Makes an event happen, and lets its line go.
+fn happen(alloc: Global, world: &mut World, number: u32, event: &Event) -> Result<(), NoMemory>
+    requires later { world.old.line < number }
+    requires bounded { number < LINES_END }
+    requires fair { IsFair event.now }
+    ensures line { OnOk result (world.new.line ≡ number) }
+    ensures stands { (config : Configuration) (events : List (ℕ × Happening))
+        → IsGood config (events ++ (number, event.now) ∷ [])
+        → StandsFor config events world.old
+        → OnOk result (StandsFor config (events ++ (number, event.now) ∷ []) world.new) }
+{
+    world.event(alloc, number, event)?;
+    Ok(())
+}
 
 // Makes all events of a schedule happen.
 fn work(alloc: Global, schedule: &Schedule, world: &mut World) -> Result<(), NoMemory>
@@ -29,7 +49,7 @@ fn work(alloc: Global, schedule: &Schedule, world: &mut World) -> Result<(), NoM
     ensures { OnOk result (StandsFor schedule.now.config schedule.now.events world.new) }
 {
     for (number, event) in schedule.events.as_slice() {
-        world.event(alloc, *number, event)?;
+        happen(alloc, world, *number, event)?;
     }
     Ok(())
 }

@@ -1,23 +1,27 @@
 //! The top call.
 
-ghost use Rattle.std.specs.Prelude.{◌≡◌, ◌+◌, IfOk, IsErrOf, Some};
+ghost use Rattle.std.specs.Prelude.{◌≡◌, ◌+◌, IfOk, IsErrOf, None, Some};
 ghost use Rattle.cl_outside.specs.Loops.{TookUpTo};
 ghost use Rattle.texts.specs.Commands.{Check, Replay, command_in};
 ghost use Rattle.cl_types.specs.declared.limits.TheConstants.{INPUT_BYTES};
+ghost use Rattle.wire_loop.specs.Serves.{told_of};
 ghost use Rattle.clio_cli.specs.Outputs.{bad_words};
-ghost use Rattle.clio_cli.specs.Run.{Asks, outside};
+ghost use Rattle.clio_cli.specs.Run.{Asks, network, outside, streams};
 ghost use Rattle.clio_cli.specs.Runs.{Runs};
-ghost use Rattle.clio_cli.specs.Wanted.{CountsHalt, IsWantedOf, Says, Serves};
+ghost use Rattle.clio_cli.specs.Wanted.{CountsHalt, IsWantedOf, Says, Serves, ServesInText};
+ghost use Rattle.clio_cli.specs.Words.{command_of};
 
 use crate::input::{Halt, Input, take_input};
 use crate::judge::{Output, Wanted, judge, judge_history, too_many};
 use crate::left::Left;
+use crate::loops::{drive_words, serve_words};
 use crate::replay::play;
 use crate::say::say;
+use crate::script::{WantedScript, wanted_script};
 use crate::status::Status;
 use crate::storm::storm;
-use crate::words::{Asked, Words};
-use cl_outside::{Sink, Source, write_all};
+use crate::words::{Asked, ClientWords, Words};
+use cl_outside::{Clock, Sink, Source, Wire, write_all};
 use std::alloc::Global;
 
 // What the bytes of a source ask of a replay.
@@ -56,9 +60,9 @@ fn serve_replay<S: Source, K: Sink>(
     left: &mut Left,
 ) -> Status
     requires nothing { left.old ≡ Left.Nothing }
-    ensures { Serves (Some Replay)
-        (outside (S.left source.old) (S.faults source.old) (K.written sink.old) (K.faults sink.old))
-        (outside (S.left source.new) (S.faults source.new) (K.written sink.new) (K.faults sink.new))
+    ensures { ServesInText (Some Replay)
+        (streams (S.left source.old) (S.faults source.old) (K.written sink.old) (K.faults sink.old))
+        (streams (S.left source.new) (S.faults source.new) (K.written sink.new) (K.faults sink.new))
         left.new result }
 {
     match wanted(alloc, source) {
@@ -71,9 +75,9 @@ fn serve_replay<S: Source, K: Sink>(
 
 // Serves `check`, which leaves nothing.
 fn serve_check<S: Source, K: Sink>(alloc: Global, source: &mut S, sink: &mut K) -> Status
-    ensures { Serves (Some Check)
-        (outside (S.left source.old) (S.faults source.old) (K.written sink.old) (K.faults sink.old))
-        (outside (S.left source.new) (S.faults source.new) (K.written sink.new) (K.faults sink.new))
+    ensures { ServesInText (Some Check)
+        (streams (S.left source.old) (S.faults source.old) (K.written sink.old) (K.faults sink.old))
+        (streams (S.left source.new) (S.faults source.new) (K.written sink.new) (K.faults sink.new))
         Left.Nothing result }
 {
     match checked(alloc, source) {
@@ -94,18 +98,50 @@ fn refuse_words<K: Sink>(sink: &mut K) -> Status
     }
 }
 
+// Serves `client`.
+fn serve_client<S: Source, K: Sink, W: Wire, C: Clock>(
+    alloc: Global,
+    words: ClientWords,
+    source: &mut S,
+    sink: &mut K,
+    wire: &mut W,
+    clock: &mut C,
+    left: &mut Left,
+) -> Status
+    requires nothing { left.old ≡ Left.Nothing }
+    ensures { Serves (Some (command_of (Asked.Drive words)))
+        (outside (streams (S.left source.old) (S.faults source.old) (K.written sink.old) (K.faults sink.old))
+        (network (told_of (W.coming wire.old) (W.sent wire.old) (C.moments clock.old)) (W.last_bind wire.old) (W.faults wire.old)))
+        (outside (streams (S.left source.new) (S.faults source.new) (K.written sink.new) (K.faults sink.new))
+        (network (told_of (W.coming wire.new) (W.sent wire.new) (C.moments clock.new)) (W.last_bind wire.new) (W.faults wire.new)))
+        left.new result }
+{
+    match wanted_script(alloc, source) {
+        Ok(WantedScript::Refused(output)) => say(sink, &output),
+        Ok(WantedScript::Scripted(script)) => {
+            drive_words(alloc, words, &script, wire, clock, sink, left)
+        }
+        Err(Halt::ReadFault) => Status::ReadFault,
+        Err(Halt::NoMemory) => Status::NoMemory,
+    }
+}
+
 // Serves a command line.
-fn serve<S: Source, K: Sink>(
+fn serve<S: Source, K: Sink, W: Wire, C: Clock>(
     alloc: Global,
     words: &Words,
     source: &mut S,
     sink: &mut K,
+    wire: &mut W,
+    clock: &mut C,
     left: &mut Left,
 ) -> Status
     requires nothing { left.old ≡ Left.Nothing }
     ensures { Serves (command_in words.now)
-        (outside (S.left source.old) (S.faults source.old) (K.written sink.old) (K.faults sink.old))
-        (outside (S.left source.new) (S.faults source.new) (K.written sink.new) (K.faults sink.new))
+        (outside (streams (S.left source.old) (S.faults source.old) (K.written sink.old) (K.faults sink.old))
+        (network (told_of (W.coming wire.old) (W.sent wire.old) (C.moments clock.old)) (W.last_bind wire.old) (W.faults wire.old)))
+        (outside (streams (S.left source.new) (S.faults source.new) (K.written sink.new) (K.faults sink.new))
+        (network (told_of (W.coming wire.new) (W.sent wire.new) (C.moments clock.new)) (W.last_bind wire.new) (W.faults wire.new)))
         left.new result }
 {
     match words.meaning() {
@@ -113,24 +149,32 @@ fn serve<S: Source, K: Sink>(
         Some(Asked::Replay) => serve_replay(alloc, source, sink, left),
         Some(Asked::Check) => serve_check(alloc, source, sink),
         Some(Asked::Storm { seed, calls }) => storm(alloc, seed, calls, sink, left),
+        Some(Asked::Serve(numbers)) => serve_words(alloc, numbers, wire, clock, sink, left),
+        Some(Asked::Drive(numbers)) => {
+            serve_client(alloc, numbers, source, sink, wire, clock, left)
+        }
     }
 }
 
 /// Serves a command line, and answers the status with which the program is to end, as the rules of
 /// the commands in docs/RULES.md number them. With success `left` is what the command worked with,
 /// which of `check` is `Nothing`, and else it is `Nothing`; what stood in it before is dropped.
-pub fn run<S: Source, K: Sink>(
+pub fn run<S: Source, K: Sink, W: Wire, C: Clock>(
     alloc: Global,
     words: &Words,
     source: &mut S,
     sink: &mut K,
+    wire: &mut W,
+    clock: &mut C,
     left: &mut Left,
 ) -> u8
     ensures { Runs words.now
-        (outside (S.left source.old) (S.faults source.old) (K.written sink.old) (K.faults sink.old))
-        (outside (S.left source.new) (S.faults source.new) (K.written sink.new) (K.faults sink.new))
+        (outside (streams (S.left source.old) (S.faults source.old) (K.written sink.old) (K.faults sink.old))
+        (network (told_of (W.coming wire.old) (W.sent wire.old) (C.moments clock.old)) (W.last_bind wire.old) (W.faults wire.old)))
+        (outside (streams (S.left source.new) (S.faults source.new) (K.written sink.new) (K.faults sink.new))
+        (network (told_of (W.coming wire.new) (W.sent wire.new) (C.moments clock.new)) (W.last_bind wire.new) (W.faults wire.new)))
         left.new result }
 {
     *left = Left::Nothing;
-    serve(alloc, words, source, sink, left).number()
+    serve(alloc, words, source, sink, wire, clock, left).number()
 }

@@ -8,7 +8,7 @@ use std::test::Fail;
 /// Whether the first worked transcript is a run, and nothing is left.
 fn checks_first(alloc: Global) -> Result<bool, NoMemory> {
     let ran = run_on(alloc, &["check"], TRANSCRIPT, NONE)?;
-    Ok(ran.is(0, b"run 3\n") && ran.left.is_none())
+    Ok(ran.is(0, b"run 3\n") && ran.is_empty())
 }
 
 #[test]

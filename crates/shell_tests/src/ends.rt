@@ -74,13 +74,64 @@ const ENDS: &[End] = &[
     End(&["storm", "1", "100001"], PATH, NONE, b"bad words\n", 1),
     End(&["storm", "01", "2"], PATH, NONE, b"bad words\n", 1),
     End(&["storm", "1", "0"], PATH, Failing::Writes(&[1]), b"", 4),
+    End(
+        &["node", "0", "16", "8", "4", "4", "0", "1"],
+        PATH,
+        NONE,
+        b"bad words\n",
+        1,
+    ),
+    End(
+        &["node", "0", "16", "7", "4", "4", "1", "1"],
+        PATH,
+        NONE,
+        b"bad node: buckets 7\n",
+        10,
+    ),
+    End(
+        &["node", "0", "16", "8", "4", "4", "1", "1"],
+        PATH,
+        NONE,
+        b"wire fault\n",
+        6,
+    ),
+    End(&["client", "0", "1", "1"], b"", NONE, b"bad words\n", 1),
+    End(&["client", "9", "1", "65280"], b"", NONE, b"bad words\n", 1),
+    End(
+        &["client", "9", "1", "1"],
+        b"fence\nread\n",
+        NONE,
+        b"line 2: missing word\n",
+        2,
+    ),
+    End(
+        &["client", "9", "1", "1"],
+        b"fence\n",
+        Failing::Reads(&[2]),
+        b"",
+        3,
+    ),
+    End(
+        &["client", "9", "1", "1"],
+        b"fence\n",
+        NONE,
+        b"wire fault\n",
+        6,
+    ),
+    End(
+        &["client", "9", "1", "1"],
+        b"fence\n",
+        Failing::Writes(&[1]),
+        b"",
+        4,
+    ),
 ];
 
 /// Whether a run ends so and leaves nothing.
 fn ends(alloc: Global, end: &End) -> Result<bool, NoMemory> {
     let End(words, input, failing, text, status) = *end;
     let ran = run_on(alloc, words, input, failing)?;
-    Ok(ran.is(status, text) && ran.left.is_none())
+    Ok(ran.is(status, text) && ran.is_empty())
 }
 
 /// The first run that ends otherwise, by its place from 0.

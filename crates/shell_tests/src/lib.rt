@@ -6,6 +6,8 @@ mod check;
 #[cfg(test)]
 mod ends;
 #[cfg(test)]
+mod network;
+#[cfg(test)]
 mod replay;
 #[cfg(test)]
 mod runs;

@@ -1,6 +1,6 @@
 //! Tests of `replay`.
 
-use crate::runs::{Failing, NONE, PATH, Shown, TRANSCRIPT, run_on};
+use crate::runs::{Failing, Kept, NONE, PATH, TRANSCRIPT, run_on};
 use cl_types::items::NoMemory;
 use cl_types::line::Summary;
 use std::alloc::Global;
@@ -16,8 +16,8 @@ const SUMMARY: Summary = Summary {
 };
 
 /// Whether this is the world of the first worked schedule.
-fn is_first(left: Option<Shown>) -> bool {
-    let Some(shown) = left else {
+fn is_first(left: Kept) -> bool {
+    let Kept::World(shown) = left else {
         return false;
     };
     shown.pages == 1 && shown.replies == 2 && shown.issued == 3 && shown.summary == SUMMARY

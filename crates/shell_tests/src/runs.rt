@@ -1,6 +1,6 @@
 //! Runs a command on bytes in memory, and looks at what it leaves.
 
-use cl_outside::{MemorySink, MemorySource};
+use cl_outside::{Bound, Datagram, MemorySink, MemorySource, Peer, ScriptClock, ScriptWire};
 use cl_types::items::NoMemory;
 use cl_types::line::Summary;
 use cl_types::numbers::ClientNo;
@@ -58,6 +58,30 @@ pub(crate) enum Failing<'a> {
 /// No call fails.
 pub(crate) const NONE: Failing = Failing::Reads(&[]);
 
+/// What wire and clock give.
+#[derive(Clone, Copy)]
+pub(crate) struct Network<'a> {
+    /// What a bind answers.
+    pub bound: Bound,
+    /// The datagrams that come, each from `PEER`.
+    pub datagrams: &'a [&'a [u8]],
+    /// What the clock answers; it repeats the last, and is 0 where there is none.
+    pub moments: &'a [u64],
+}
+
+/// The peer at the other end of a wire.
+pub(crate) const PEER: Peer = Peer {
+    ip: 0x7f00_0001,
+    port: 7000,
+};
+
+/// No bind works, and nothing comes.
+pub(crate) const NO_NETWORK: Network = Network {
+    bound: Bound::Failed,
+    datagrams: &[],
+    moments: &[],
+};
+
 /// What is shown of a world that is left.
 #[derive(Clone, Copy)]
 pub(crate) struct Shown {
@@ -68,19 +92,33 @@ pub(crate) struct Shown {
     pub summary: Summary,
 }
 
+/// What is shown of what is left.
+#[derive(Clone, Copy)]
+pub(crate) enum Kept {
+    Nothing,
+    World(Shown),
+    Node { pages: u32, replies: u32 },
+    Client { issued: u32 },
+}
+
 /// What a run came to.
 #[derive(Drop)]
 pub(crate) struct Ran {
     pub status: u8,
     pub written: Vec<u8>,
-    /// The world that is left, if one is.
-    pub left: Option<Shown>,
+    pub left: Kept,
+    pub wire: ScriptWire,
 }
 
 impl Ran {
     /// Whether the run has this status and wrote this text.
     pub(crate) fn is(&self, status: u8, text: &[u8]) -> bool {
         self.status == status && self.written.as_slice() == text
+    }
+
+    /// Whether nothing is left.
+    pub(crate) fn is_empty(&self) -> bool {
+        matches!(self.left, Kept::Nothing)
     }
 }
 
@@ -115,29 +153,77 @@ fn issued(world: &World) -> u32 {
     world.client(ClientNo(1)).issued()
 }
 
-fn show(left: &Left) -> Option<Shown> {
+fn show(left: &Left) -> Kept {
     match left {
-        Left::Nothing => None,
-        Left::Replayed(world) => Some(Shown {
+        Left::Nothing => Kept::Nothing,
+        Left::Replayed(world) => Kept::World(Shown {
             pages: world.node().used(),
             replies: world.node().retained(),
             issued: issued(world),
             summary: world.finish(),
         }),
+        Left::Served(node) => Kept::Node {
+            pages: node.used(),
+            replies: node.retained(),
+        },
+        Left::Driven(client) => Kept::Client {
+            issued: client.issued(),
+        },
     }
 }
 
-/// The status of a command, and what is shown of what it leaves. No other function owns a world, since each that drops one
+fn wire(alloc: Global, network: Network) -> Result<ScriptWire, NoMemory> {
+    let mut datagrams = Vec::new(alloc);
+    for bytes in network.datagrams {
+        let bytes = Vec::from_slice(alloc, bytes)?;
+        datagrams
+            .push(Datagram { bytes, from: PEER })
+            .map_err(|_| NoMemory)?;
+    }
+    Ok(ScriptWire::create(
+        alloc,
+        network.bound,
+        datagrams,
+        Vec::new(alloc),
+        Vec::new(alloc),
+    ))
+}
+
+/// The status of a command, and what is shown of what it leaves. No other function owns that, since each that drops a world
 /// takes the prover long.
 fn serve(
     alloc: Global,
     words: &Words,
     source: &mut MemorySource,
     sink: &mut MemorySink,
-) -> (u8, Option<Shown>) {
+    wire: &mut ScriptWire,
+    clock: &mut ScriptClock,
+) -> (u8, Kept) {
     let mut left = Left::Nothing;
-    let status = run(alloc, words, source, sink, &mut left);
+    let status = run(alloc, words, source, sink, wire, clock, &mut left);
     (status, show(&left))
+}
+
+/// Runs a command on an input, over a network.
+pub(crate) fn run_over(
+    alloc: Global,
+    words: &[&str],
+    input: &[u8],
+    failing: Failing,
+    network: Network,
+) -> Result<Ran, NoMemory> {
+    let words = words_of(alloc, words)?;
+    let mut source = source(alloc, input, failing)?;
+    let mut sink = sink(alloc, failing)?;
+    let mut clock = ScriptClock::create(Vec::from_slice(alloc, network.moments)?);
+    let mut wire = wire(alloc, network)?;
+    let (status, left) = serve(alloc, &words, &mut source, &mut sink, &mut wire, &mut clock);
+    Ok(Ran {
+        status,
+        written: Vec::from_slice(alloc, sink.bytes())?,
+        left,
+        wire,
+    })
 }
 
 /// Runs a command on an input.
@@ -147,13 +233,5 @@ pub(crate) fn run_on(
     input: &[u8],
     failing: Failing,
 ) -> Result<Ran, NoMemory> {
-    let words = words_of(alloc, words)?;
-    let mut source = source(alloc, input, failing)?;
-    let mut sink = sink(alloc, failing)?;
-    let (status, left) = serve(alloc, &words, &mut source, &mut sink);
-    Ok(Ran {
-        status,
-        written: Vec::from_slice(alloc, sink.bytes())?,
-        left,
-    })
+    run_over(alloc, words, input, failing, NO_NETWORK)
 }

@@ -1,6 +1,6 @@
 //! Tests of `storm`.
 
-use crate::runs::{Failing, run_on};
+use crate::runs::{Failing, Kept, run_on};
 use cl_types::items::NoMemory;
 use std::alloc::Global;
 use std::test::Fail;
@@ -19,8 +19,8 @@ verdict run
 fn storms(alloc: Global) -> Result<bool, NoMemory> {
     let ran = run_on(alloc, &["storm", "1", "0"], b"", Failing::Reads(&[1]))?;
     let is_left = match ran.left {
-        Some(shown) => shown.summary.issued == 4,
-        None => false,
+        Kept::World(shown) => shown.summary.issued == 4,
+        _ => false,
     };
     Ok(ran.is(0, COUNTS) && is_left)
 }

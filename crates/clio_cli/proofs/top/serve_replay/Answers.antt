@@ -1,5 +1,5 @@
 use Rattle.std.proofs.Common.{subst}
-use Rattle.clio_cli.specs.Run.{outside}
+use Rattle.clio_cli.specs.Run.{streams}
 use Rattle.clio_cli.specs.Wanted.{IsWantedOf}
 use Rattle.clio_cli.proofs.ServeLemmas.{opened_serves, refused_serves, served_of}
 use Rattle.clio_cli.proofs.top.serve_replay.Goals as goal
@@ -13,14 +13,14 @@ pub returns-in-Ok-Refused : goal.returns-in-Ok-Refused
 returns-in-Ok-Refused g c =
     let wanted = subst (IsWantedOf (g.S.Source.left c.args.source.now) (g.S.Source.left c.wanted.new.source)) c.in-Ok-Refused.field-0-is c.in-Ok-Refused.ensures.wanted in
     refused_serves
-    (outside (g.S.Source.left c.args.source.now) (g.S.Source.faults c.args.source.now) (g.K.Sink.written c.args.sink.now) (g.K.Sink.faults c.args.sink.now))
-    (outside (g.S.Source.left c.wanted.new.source) (g.S.Source.faults c.wanted.new.source) (g.K.Sink.written c.say.new.sink) (g.K.Sink.faults c.say.new.sink))
+    (streams (g.S.Source.left c.args.source.now) (g.S.Source.faults c.args.source.now) (g.K.Sink.written c.args.sink.now) (g.K.Sink.faults c.args.sink.now))
+    (streams (g.S.Source.left c.wanted.new.source) (g.S.Source.faults c.wanted.new.source) (g.K.Sink.written c.say.new.sink) (g.K.Sink.faults c.say.new.sink))
     c.args.left.now c.in-Ok-Refused.output wanted c.in-Ok-Refused.ensures.counted c.requires.nothing c.say.result c.say.ensures
 
 pub returns-in-Ok-Opened : goal.returns-in-Ok-Opened
 returns-in-Ok-Opened g c =
     let wanted = subst (IsWantedOf (g.S.Source.left c.args.source.now) (g.S.Source.left c.wanted.new.source)) c.in-Ok-Opened.field-0-is c.in-Ok-Opened.ensures.wanted in
     opened_serves
-    (outside (g.S.Source.left c.args.source.now) (g.S.Source.faults c.args.source.now) (g.K.Sink.written c.args.sink.now) (g.K.Sink.faults c.args.sink.now))
-    (outside (g.S.Source.left c.wanted.new.source) (g.S.Source.faults c.wanted.new.source) (g.K.Sink.written c.play.new.sink) (g.K.Sink.faults c.play.new.sink))
+    (streams (g.S.Source.left c.args.source.now) (g.S.Source.faults c.args.source.now) (g.K.Sink.written c.args.sink.now) (g.K.Sink.faults c.args.sink.now))
+    (streams (g.S.Source.left c.wanted.new.source) (g.S.Source.faults c.wanted.new.source) (g.K.Sink.written c.play.new.sink) (g.K.Sink.faults c.play.new.sink))
     c.play.new.left c.in-Ok-Opened.schedule c.in-Ok-Opened.world wanted c.in-Ok-Opened.ensures.counted c.play.result c.play.ensures
