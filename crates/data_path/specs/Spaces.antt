@@ -8,6 +8,7 @@ use Rattle.cl_types.specs.declared.limits.TheConstants.{PAGE_BYTES}
 use Rattle.cl_types.specs.Bytes.{over, zeros}
 use Rattle.cl_types.specs.Places.{Place, place_cmp, space_no}
 use Rattle.hash_buckets.specs.PageMap.{PageMap}
+use Rattle.range_alloc.specs.RangeSets.{RangeSets}
 use Rattle.page_pool.specs.PoolPages.{PoolPages, IsReady}
 use Rattle.translate_cache.specs.Cached.{Cached}
 use Rattle.flat_model.specs.State.{FlatState, Page, bytes_of, page_at}
@@ -46,6 +47,7 @@ pub record RestOf : Type 0 where
   pub table : PageMap
   pub cache : Cached
   pub pool : PoolPages
+  pub ranges : RangeSets
   pub others : List (Place × Page)
 
 -- the rest of an offload's space over a lent store
@@ -57,5 +59,6 @@ rest_of k r = let s = r.now in record {
   table = s.table;
   cache = s.cache;
   pool = s.pool;
+  ranges = s.ranges;
   others = where_key place_cmp (λ place. not (place.0 == space_no k)) (memory_of s).map;
 }

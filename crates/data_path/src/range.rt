@@ -108,7 +108,7 @@ impl PageStore {
     }
 
     /// Gives the pages of a range of a process this permission, where one of this start and this number of pages is
-    /// allocated: a Protect.
+    /// allocated: a Protect. `NoMapping` comes if and only if there is none.
     pub fn protect_part(
         &mut self,
         space: Space16,

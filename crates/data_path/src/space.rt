@@ -13,7 +13,7 @@ use cl_types::page::Pte;
 use cl_types::space::Space;
 
 /// The pages of an offload, as a space. Its bytes are those of the pages, one behind the other, and its rest is all of
-/// the store but these bytes and those of the free pages: the table, the cache and the pool are in it.
+/// the store but these bytes and those of the free pages: the table, the cache, the pool and the lists are in it.
 #[derive(Drop)]
 pub struct SpaceOf<'a> {
     pub store: &'a mut PageStore,

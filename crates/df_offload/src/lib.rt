@@ -17,8 +17,9 @@
 //! page 2: row 170: 24 | row 171: 24 | ..
 //! ```
 //!
-//! An append writes its rows before their number, behind all rows that are there. The other calls read one number of each
-//! row, in order: that shows in the code, and no clause says it.
+//! An append writes its rows before their number, behind all rows that are there. The other calls go through the rows in order,
+//! a select from its cursor on, and read the tested number of each; of a hit they read the number that is asked for too, or
+//! copy the row. That shows in the code, and no clause says it.
 #![tactic(auto)]
 
 mod df;

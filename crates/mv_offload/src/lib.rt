@@ -13,7 +13,7 @@
 //! ```text
 //! objects: 2 | versions over all: 2 | heads of the objects, 4 bytes each
 //! head:    last record: 2 | number of versions: 2
-//! record:  record before: 2 | length: 2 | bytes: up to 256
+//! record:  record before: 2 | length: 2 | bytes: up to 256, and 13 bytes that are never used
 //!
 //! object 1 -> record 4 -> record 2 -> record 1 -> (end)
 //! object 2 -> record 3 -> (end)

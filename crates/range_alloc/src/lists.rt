@@ -79,7 +79,7 @@ impl RangeLists {
         }
     }
 
-    /// The start of the first range of a space. `None` comes exactly where the space has no range.
+    /// The start of the first range of a space. `None` comes if and only if the space has no range.
     pub fn first(&self, space: Space16) -> Option<Vpn>
         ensures { option_map (λ vpn. vpn.0) result
             ≡ option_map (λ range. range.0) (slice_get (ranges_in self.now space.0) 0) }

@@ -11,8 +11,8 @@ use cl_types::call::Perm;
 use cl_types::numbers::{Space16, Vpn};
 use hash_buckets::Table;
 
-/// Gives the pages of the range of 1 to 1,024 pages that begins here this permission. True comes exactly where a range of
-/// this number of pages begins here; false leaves all as it was. No page gets another frame, and no range another length.
+/// Gives the pages of the range of 1 to 1,024 pages that begins here this permission. True comes if and only if a
+/// range of this number of pages begins here; false leaves all as it was. No page gets another frame, and no range another length.
 pub fn protect_range(table: &mut Table, space: Space16, start: Vpn, pages: u16, perm: Perm) -> bool
     requires pages { IsTrue (is_page_count pages) }
     requires ranges { AreRanges table.old }

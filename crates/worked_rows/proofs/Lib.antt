@@ -7,3 +7,4 @@ mod CommandRows
 mod HistoryRows
 mod LoopRows
 mod DataFrameRows
+mod VersionRows

@@ -23,5 +23,6 @@ returns-clause-rest c =
       table = ap (λ (x : PageStore). x.table) rest i;
       cache = ap (λ (x : PageStore). x.cache) rest i;
       pool = ap (λ (x : PageStore). x.pool) rest i;
+      ranges = ap (λ (x : PageStore). x.ranges) rest i;
       others = others i;
     }
