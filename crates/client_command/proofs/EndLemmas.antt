@@ -14,7 +14,7 @@ use Rattle.client_model.specs.Client.{ClientState}
 use Rattle.texts.specs.Text.{Text}
 use Rattle.wire_loop.specs.Driving.{DriveStop, AllEnded, Stalled, WireFailed}
 use Rattle.wire_loop.specs.Drives.{BreaksOff, Drives}
-use Rattle.wire_loop.specs.Serves.{Told, told_of}
+use Rattle.wire_loop.specs.Serves.{Told, incoming, told_of}
 use Rattle.wire_loop.specs.Wired.{Wired}
 use Rattle.client_command.specs.Lines.{EndsStalled, EndsWireFault, stalled_line}
 use Rattle.client_command.specs.Ends.{BindsAny, BrokenOff, CountsStop, DrivenTo, ClientEnds, FaultLine, LastLine, Task, Unbound}
@@ -44,10 +44,11 @@ good_before_stop WireFailed a b c good last = last ∙ ap after_fault good
 
 -- ---- the bind
 -- what a wire tells that stands as it was
-pub told_same : (coming coming' sent sent' : Option (List Message)) (moments : Option Moments) → coming' ≡ coming → sent' ≡ sent
-    → told_of coming' sent' moments ≡ told_of coming sent moments
-told_same coming coming' sent sent' moments is_coming is_sent =
-    λ i. record { coming = is_coming i; sent = is_sent i; moments = moments }
+pub told_same : (coming coming' : Option (List Message)) (idles idles' : ℕ) (sent sent' : Option (List Message)) (moments : Option Moments)
+    → coming' ≡ coming → idles' ≡ idles → sent' ≡ sent
+    → told_of (incoming coming' idles') sent' moments ≡ told_of (incoming coming idles) sent moments
+told_same coming coming' idles idles' sent sent' moments is_coming is_idles is_sent =
+    λ i. told_of (incoming (is_coming i) (is_idles i)) (is_sent i) moments
 
 -- the wire was given this port, and what it tells stands
 pub record Found (port : ℕ) (before between : Wired) : Type 0 where

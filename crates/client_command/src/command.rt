@@ -2,7 +2,7 @@
 
 ghost use Rattle.std.specs.Prelude.{◌≡◌, ◌≤◌, length};
 ghost use Rattle.cl_types.specs.declared.limits.TheConstants.{INPUT_LINES};
-ghost use Rattle.wire_loop.specs.Serves.{told_of};
+ghost use Rattle.wire_loop.specs.Serves.{incoming, told_of};
 ghost use Rattle.wire_loop.specs.Wired.{wired};
 ghost use Rattle.client_command.specs.Ends.{ClientEnds, node_at, task_of};
 
@@ -43,9 +43,9 @@ pub fn drive_client<W: Wire, C: Clock, K: Sink>(
 ) -> ClientEnd
     requires few { length script.now.calls ≤ INPUT_LINES }
     ensures { ClientEnds (task_of node_port no pid script.now.calls)
-        (wired (told_of (W.coming wire.old) (W.sent wire.old) (C.moments clock.old))
+        (wired (told_of (incoming (W.coming wire.old) (W.idles wire.old)) (W.sent wire.old) (C.moments clock.old))
         (W.last_bind wire.old) (W.faults wire.old) (K.written sink.old) (K.faults sink.old))
-        (wired (told_of (W.coming wire.new) (W.sent wire.new) (C.moments clock.new))
+        (wired (told_of (incoming (W.coming wire.new) (W.idles wire.new)) (W.sent wire.new) (C.moments clock.new))
         (W.last_bind wire.new) (W.faults wire.new) (K.written sink.new) (K.faults sink.new))
         result }
 {

@@ -2,7 +2,7 @@
 
 ghost use Rattle.std.specs.Prelude.{◌≡◌, ◌≤◌, length};
 ghost use Rattle.cl_types.specs.declared.limits.TheConstants.{INPUT_LINES};
-ghost use Rattle.wire_loop.specs.Serves.{told_of};
+ghost use Rattle.wire_loop.specs.Serves.{incoming, told_of};
 ghost use Rattle.wire_loop.specs.Wired.{wired};
 ghost use Rattle.clio_cli.specs.Run.{client_status, node_status};
 ghost use Rattle.clio_cli.specs.Wanted.{DrivesClient, ServesNode, client_left, node_left};
@@ -61,9 +61,9 @@ pub fn serve_words<W: Wire, C: Clock, K: Sink>(
     requires nothing { left.old ≡ Left.Nothing }
     requires counts { (1 ≤ words.frames) × (1 ≤ words.idles) }
     ensures { ServesNode (node_numbers words)
-        (wired (told_of (W.coming wire.old) (W.sent wire.old) (C.moments clock.old))
+        (wired (told_of (incoming (W.coming wire.old) (W.idles wire.old)) (W.sent wire.old) (C.moments clock.old))
         (W.last_bind wire.old) (W.faults wire.old) (K.written sink.old) (K.faults sink.old))
-        (wired (told_of (W.coming wire.new) (W.sent wire.new) (C.moments clock.new))
+        (wired (told_of (incoming (W.coming wire.new) (W.idles wire.new)) (W.sent wire.new) (C.moments clock.new))
         (W.last_bind wire.new) (W.faults wire.new) (K.written sink.new) (K.faults sink.new))
         left.new result }
 {
@@ -112,9 +112,9 @@ pub fn drive_words<W: Wire, C: Clock, K: Sink>(
     requires nothing { left.old ≡ Left.Nothing }
     requires few { length script.now.calls ≤ INPUT_LINES }
     ensures { DrivesClient (client_task words script.now.calls)
-        (wired (told_of (W.coming wire.old) (W.sent wire.old) (C.moments clock.old))
+        (wired (told_of (incoming (W.coming wire.old) (W.idles wire.old)) (W.sent wire.old) (C.moments clock.old))
         (W.last_bind wire.old) (W.faults wire.old) (K.written sink.old) (K.faults sink.old))
-        (wired (told_of (W.coming wire.new) (W.sent wire.new) (C.moments clock.new))
+        (wired (told_of (incoming (W.coming wire.new) (W.idles wire.new)) (W.sent wire.new) (C.moments clock.new))
         (W.last_bind wire.new) (W.faults wire.new) (K.written sink.new) (K.faults sink.new))
         left.new result }
 {

@@ -4,7 +4,7 @@ ghost use Rattle.std.specs.Prelude.{◌≡◌, ◌+◌, IfOk, IsErrOf, None, Som
 ghost use Rattle.cl_outside.specs.Loops.{TookUpTo};
 ghost use Rattle.texts.specs.Commands.{Check, Replay, command_in};
 ghost use Rattle.cl_types.specs.declared.limits.TheConstants.{INPUT_BYTES};
-ghost use Rattle.wire_loop.specs.Serves.{told_of};
+ghost use Rattle.wire_loop.specs.Serves.{incoming, told_of};
 ghost use Rattle.clio_cli.specs.Outputs.{bad_words};
 ghost use Rattle.clio_cli.specs.Run.{Asks, network, outside, streams};
 ghost use Rattle.clio_cli.specs.Runs.{Runs};
@@ -111,9 +111,9 @@ fn serve_client<S: Source, K: Sink, W: Wire, C: Clock>(
     requires nothing { left.old ≡ Left.Nothing }
     ensures { Serves (Some (command_of (Asked.Drive words)))
         (outside (streams (S.left source.old) (S.faults source.old) (K.written sink.old) (K.faults sink.old))
-        (network (told_of (W.coming wire.old) (W.sent wire.old) (C.moments clock.old)) (W.last_bind wire.old) (W.faults wire.old)))
+        (network (told_of (incoming (W.coming wire.old) (W.idles wire.old)) (W.sent wire.old) (C.moments clock.old)) (W.last_bind wire.old) (W.faults wire.old)))
         (outside (streams (S.left source.new) (S.faults source.new) (K.written sink.new) (K.faults sink.new))
-        (network (told_of (W.coming wire.new) (W.sent wire.new) (C.moments clock.new)) (W.last_bind wire.new) (W.faults wire.new)))
+        (network (told_of (incoming (W.coming wire.new) (W.idles wire.new)) (W.sent wire.new) (C.moments clock.new)) (W.last_bind wire.new) (W.faults wire.new)))
         left.new result }
 {
     match wanted_script(alloc, source) {
@@ -139,9 +139,9 @@ fn serve<S: Source, K: Sink, W: Wire, C: Clock>(
     requires nothing { left.old ≡ Left.Nothing }
     ensures { Serves (command_in words.now)
         (outside (streams (S.left source.old) (S.faults source.old) (K.written sink.old) (K.faults sink.old))
-        (network (told_of (W.coming wire.old) (W.sent wire.old) (C.moments clock.old)) (W.last_bind wire.old) (W.faults wire.old)))
+        (network (told_of (incoming (W.coming wire.old) (W.idles wire.old)) (W.sent wire.old) (C.moments clock.old)) (W.last_bind wire.old) (W.faults wire.old)))
         (outside (streams (S.left source.new) (S.faults source.new) (K.written sink.new) (K.faults sink.new))
-        (network (told_of (W.coming wire.new) (W.sent wire.new) (C.moments clock.new)) (W.last_bind wire.new) (W.faults wire.new)))
+        (network (told_of (incoming (W.coming wire.new) (W.idles wire.new)) (W.sent wire.new) (C.moments clock.new)) (W.last_bind wire.new) (W.faults wire.new)))
         left.new result }
 {
     match words.meaning() {
@@ -170,9 +170,9 @@ pub fn run<S: Source, K: Sink, W: Wire, C: Clock>(
 ) -> u8
     ensures { Runs words.now
         (outside (streams (S.left source.old) (S.faults source.old) (K.written sink.old) (K.faults sink.old))
-        (network (told_of (W.coming wire.old) (W.sent wire.old) (C.moments clock.old)) (W.last_bind wire.old) (W.faults wire.old)))
+        (network (told_of (incoming (W.coming wire.old) (W.idles wire.old)) (W.sent wire.old) (C.moments clock.old)) (W.last_bind wire.old) (W.faults wire.old)))
         (outside (streams (S.left source.new) (S.faults source.new) (K.written sink.new) (K.faults sink.new))
-        (network (told_of (W.coming wire.new) (W.sent wire.new) (C.moments clock.new)) (W.last_bind wire.new) (W.faults wire.new)))
+        (network (told_of (incoming (W.coming wire.new) (W.idles wire.new)) (W.sent wire.new) (C.moments clock.new)) (W.last_bind wire.new) (W.faults wire.new)))
         left.new result }
 {
     *left = Left::Nothing;

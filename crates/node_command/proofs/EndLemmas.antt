@@ -12,7 +12,7 @@ use Rattle.cl_types.specs.declared.open_fault.OpenFault.{OpenFault}
 use Rattle.cl_types.specs.declared.open_fault.OpenFault.TheVariants as memory
 use Rattle.node_core.specs.Keeping.{KeptNode}
 use Rattle.texts.specs.Texts.{open_fault_line}
-use Rattle.wire_loop.specs.Serves.{CountsServe, Serves, Told, told_of}
+use Rattle.wire_loop.specs.Serves.{CountsServe, Serves, Told, incoming, told_of}
 use Rattle.wire_loop.specs.declared.serving.ServeEnd.{ServeEnd}
 use Rattle.wire_loop.specs.declared.serving.ServeEnd.TheVariants as serve_end
 use Rattle.wire_loop.specs.Wired.{Wired, wired, wire_fault_line}
@@ -219,10 +219,11 @@ module _ (port : ℕ) (node : KeptNode) (frames idles : ℕ) (now after : Wired)
 
 -- ---- a port that is not bound
 -- a wire of which nothing was received or sent shows the same
-pub told_same : (coming coming' sent sent' : Option (List Message)) (moments : Option Moments) → coming' ≡ coming → sent' ≡ sent
-    → told_of coming' sent' moments ≡ told_of coming sent moments
-told_same coming coming' sent sent' moments same_coming same_sent =
-    λ i. record { coming = same_coming i; sent = same_sent i; moments = moments }
+pub told_same : (coming coming' : Option (List Message)) (idles idles' : ℕ) (sent sent' : Option (List Message)) (moments : Option Moments)
+    → coming' ≡ coming → idles' ≡ idles → sent' ≡ sent
+    → told_of (incoming coming' idles') sent' moments ≡ told_of (incoming coming idles) sent moments
+told_same coming coming' idles idles' sent sent' moments same_coming same_idles same_sent =
+    λ i. told_of (incoming (same_coming i) (same_idles i)) (same_sent i) moments
 
 module _ (port : ℕ) (node : KeptNode) (frames idles : ℕ) (before after : Wired) (told : after.told ≡ before.told)
     (binds : Binds port Failed before after) (last : LastFailed before.wire_faults after.wire_faults) where

@@ -1,7 +1,7 @@
 //! Serving a node on a port.
 
 ghost use Rattle.std.specs.Prelude.{◌≡◌, ◌≤◌};
-ghost use Rattle.wire_loop.specs.Serves.{told_of};
+ghost use Rattle.wire_loop.specs.Serves.{incoming, told_of};
 ghost use Rattle.wire_loop.specs.Wired.{wired};
 ghost use Rattle.node_command.specs.Ends.{NodeEnds, numbers};
 ghost use Rattle.node_command.specs.Writing.{EndsFrom, EndsOn, EndsRefused, ends_by, is_memory};
@@ -53,9 +53,9 @@ fn serve_bound<W: Wire, C: Clock, K: Sink>(
     requires frames { 1 ≤ frames }
     requires idles { 1 ≤ idles }
     ensures { EndsFrom port node.old frames idles
-        (wired (told_of (W.coming wire.old) (W.sent wire.old) (C.moments clock.old))
+        (wired (told_of (incoming (W.coming wire.old) (W.idles wire.old)) (W.sent wire.old) (C.moments clock.old))
         (W.last_bind wire.old) (W.faults wire.old) (K.written sink.old) (K.faults sink.old))
-        (wired (told_of (W.coming wire.new) (W.sent wire.new) (C.moments clock.new))
+        (wired (told_of (incoming (W.coming wire.new) (W.idles wire.new)) (W.sent wire.new) (C.moments clock.new))
         (W.last_bind wire.new) (W.faults wire.new) (K.written sink.new) (K.faults sink.new))
         (ends_by result node.new) }
 {
@@ -80,9 +80,9 @@ fn serve_on<W: Wire, C: Clock, K: Sink>(
     requires frames { 1 ≤ frames }
     requires idles { 1 ≤ idles }
     ensures { EndsOn port node.old frames idles
-        (wired (told_of (W.coming wire.old) (W.sent wire.old) (C.moments clock.old))
+        (wired (told_of (incoming (W.coming wire.old) (W.idles wire.old)) (W.sent wire.old) (C.moments clock.old))
         (W.last_bind wire.old) (W.faults wire.old) (K.written sink.old) (K.faults sink.old))
-        (wired (told_of (W.coming wire.new) (W.sent wire.new) (C.moments clock.new))
+        (wired (told_of (incoming (W.coming wire.new) (W.idles wire.new)) (W.sent wire.new) (C.moments clock.new))
         (W.last_bind wire.new) (W.faults wire.new) (K.written sink.new) (K.faults sink.new))
         (ends_by result node.new) }
 {
@@ -119,9 +119,9 @@ pub fn serve_node<W: Wire, C: Clock, K: Sink>(
     requires frames { 1 ≤ frames }
     requires idles { 1 ≤ idles }
     ensures ends { NodeEnds (numbers port config.now frames idles)
-        (wired (told_of (W.coming wire.old) (W.sent wire.old) (C.moments clock.old))
+        (wired (told_of (incoming (W.coming wire.old) (W.idles wire.old)) (W.sent wire.old) (C.moments clock.old))
         (W.last_bind wire.old) (W.faults wire.old) (K.written sink.old) (K.faults sink.old))
-        (wired (told_of (W.coming wire.new) (W.sent wire.new) (C.moments clock.new))
+        (wired (told_of (incoming (W.coming wire.new) (W.idles wire.new)) (W.sent wire.new) (C.moments clock.new))
         (W.last_bind wire.new) (W.faults wire.new) (K.written sink.new) (K.faults sink.new))
         result }
 {

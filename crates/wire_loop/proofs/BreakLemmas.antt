@@ -12,7 +12,7 @@ use Rattle.wire_loop.specs.Driving.{Answered, Driving, Printed, frame_of, is_fru
 use Rattle.wire_loop.specs.Outside.{ClockAnswers, Received, Datagram, NothingCame, ReceivingFailed, after_answer, goes_through, moment_of}
 use Rattle.wire_loop.specs.Drives.{text_of}
 use Rattle.wire_loop.specs.Driven.{BrokeIssuing, BrokeTurning, Issued, PollsOnce, answered_by, driving, fails, fruitless_by}
-use Rattle.wire_loop.specs.Serves.{Gave, IsTold, Told, clock_of, told_of}
+use Rattle.wire_loop.specs.Serves.{Gave, Incoming, IsTold, Told, clock_of, told_of}
 use Rattle.wire_loop.specs.declared.driving.Fruit.{Fruit}
 use Rattle.wire_loop.proofs.IssueLemmas.{front_before, front_of_texts, text_both}
 use Rattle.wire_loop.proofs.OnceLemmas.{fruit_counts, turn_is}
@@ -89,7 +89,7 @@ broke_issuing calls node old from lines told w w' b =
 
 -- ---- it breaks off while answers are written
 module _ (calls : List (ℕ × CallText)) (node : Peer) (old mid polled : ClientState) (from to : ℕ) (lines lines' : List ℕ)
-    (coming coming' sent sent' : Option (List Message)) (moments : Option Moments) (w w' w'' : Option (List ℕ)) (how : Fruit) (answer now : ℕ)
+    (coming coming' : Incoming) (sent sent' : Option (List Message)) (moments : Option Moments) (w w' w'' : Option (List ℕ)) (how : Fruit) (answer now : ℕ)
     (i : Issued calls old mid from to lines lines' w w') (p : PollsOnce node mid polled now coming coming' sent sent' how) where
   pub broke_handing : IfSome moments (λ told. answer ≡ next_moment told) → max answer mid.last ≡ now → WroteFront (text_of (answered_by polled lines')) w' w''
       → BrokeTurning calls node old from lines (told_of coming sent moments) (told_of coming' sent' (option_map after_moment moments)) w w''
@@ -122,7 +122,7 @@ module _ (calls : List (ℕ × CallText)) (node : Peer) (old mid polled : Client
       }
 
 -- the clock stands as it was told
-pub broke_with_moments : (calls : List (ℕ × CallText)) (node : Peer) (old : ClientState) (from : ℕ) (lines : List ℕ) (coming coming' sent sent' : Option (List Message)) (moments moments' : Option Moments) (w w' : Option (List ℕ))
+pub broke_with_moments : (calls : List (ℕ × CallText)) (node : Peer) (old : ClientState) (from : ℕ) (lines : List ℕ) (coming coming' : Incoming) (sent sent' : Option (List Message)) (moments moments' : Option Moments) (w w' : Option (List ℕ))
     → moments' ≡ option_map after_moment moments
     → BrokeTurning calls node old from lines (told_of coming sent moments) (told_of coming' sent' (option_map after_moment moments)) w w'
     → BrokeTurning calls node old from lines (told_of coming sent moments) (told_of coming' sent' moments') w w'

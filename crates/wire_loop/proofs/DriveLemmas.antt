@@ -17,7 +17,7 @@ use Rattle.wire_loop.specs.Driving.{Driving, Printed, DriveStop, AllEnded, Stall
 use Rattle.wire_loop.specs.Outside.{ClockAnswers, Received}
 use Rattle.wire_loop.specs.Drives.{BreaksOff, Drives, Drove, HasReceiving, StandsAt, message_to, next_poll}
 use Rattle.wire_loop.specs.Driven.{BrokeTurning, CountsFruit, Ran, Stood, TurnsOnce, driving, fails, fruitless_by}
-use Rattle.wire_loop.specs.Serves.{Gave, IsTold, Told}
+use Rattle.wire_loop.specs.Serves.{Gave, Incoming, IsTold, Told}
 use Rattle.wire_loop.specs.declared.driving.Fruit.{Fruit}
 use Rattle.wire_loop.specs.declared.driving.Fruit.TheVariants as fruit
 use Rattle.wire_loop.proofs.BreakLemmas.{some_clock}
@@ -39,7 +39,7 @@ drove_first d e none has t = record { count = suc t.count; after = t.after; goes
   receives zero small = has
   receives (suc k) small = t.received k (omega (arith, small))
 
-gave_all : (rs ss : List (Received Peer)) (a b c : Option (List Message)) → Gave rs a b → Gave ss b c → Gave (rs ++ ss) a c
+gave_all : (rs ss : List (Received Peer)) (a b c : Incoming) → Gave rs a b → Gave ss b c → Gave (rs ++ ss) a c
 gave_all [] ss a b c first second = subst (λ o. Gave ss o c) first second
 gave_all (r ∷ rs) ss a b c first second = (first.0, first.1, gave_all rs ss first.0 b c first.2 second)
 

@@ -12,7 +12,7 @@ use Rattle.wire_loop.specs.Driving.{Answered, Driving, Printed, line_of, polls, 
 use Rattle.wire_loop.specs.Outside.{ClockAnswers, Received, moment_of}
 use Rattle.wire_loop.specs.Drives.{HasReceiving, next_poll, text_of}
 use Rattle.wire_loop.specs.Driven.{Issued, PollsOnce, TurnsOnce, answered_by, driving, fails, fruitless_by}
-use Rattle.wire_loop.specs.Serves.{IsTold, told_of}
+use Rattle.wire_loop.specs.Serves.{Incoming, IsTold, told_of}
 use Rattle.wire_loop.specs.declared.driving.Fruit.{Fruit}
 use Rattle.wire_loop.proofs.ClockLemmas.{clock_before}
 use Rattle.wire_loop.proofs.IssueLemmas.{added_texts}
@@ -26,7 +26,7 @@ abbrev rest_of_turn : Driving Peer → Driving Peer
 rest_of_turn r = turn_on (moment_in r) (poll r.client (moment_in r)) r
 
 module _ (calls : List (ℕ × CallText)) (node : Peer) (old mid polled new : ClientState) (from to : ℕ) (lines lines' : List ℕ)
-    (coming coming' sent sent' : Option (List Message)) (moments : Option Moments) (w w' : Option (List ℕ)) (how : Fruit) (answer now : ℕ)
+    (coming coming' : Incoming) (sent sent' : Option (List Message)) (moments : Option Moments) (w w' : Option (List ℕ)) (how : Fruit) (answer now : ℕ)
     (i : Issued calls old mid from to lines lines' w w') (p : PollsOnce node mid polled now coming coming' sent sent' how) where
   -- the turn of the definition, whatever comes later
   pub turn_is : IfSome moments (λ told. answer ≡ next_moment told) → max answer mid.last ≡ now → new ≡ handed_out polled
@@ -84,7 +84,7 @@ none_to_say s lines w none =
     subst (λ (fs : List Finished). Added (text_of (map (λ f. Answered (line_of lines f.number) (told s.client f)) fs)) w w) (sym none) (added_none w)
 
 -- the clock stands as it was told
-pub with_moments : (calls : List (ℕ × CallText)) (node : Peer) (old new : ClientState) (from to : ℕ) (lines lines' : List ℕ) (coming coming' sent sent' : Option (List Message)) (moments moments' : Option Moments) (w w' : Option (List ℕ)) (how : Fruit)
+pub with_moments : (calls : List (ℕ × CallText)) (node : Peer) (old new : ClientState) (from to : ℕ) (lines lines' : List ℕ) (coming coming' : Incoming) (sent sent' : Option (List Message)) (moments moments' : Option Moments) (w w' : Option (List ℕ)) (how : Fruit)
     → moments' ≡ option_map after_moment moments
     → TurnsOnce calls node old new from to lines lines' (told_of coming sent moments) (told_of coming' sent' (option_map after_moment moments)) w w' how
     → TurnsOnce calls node old new from to lines lines' (told_of coming sent moments) (told_of coming' sent' moments') w w' how

@@ -13,6 +13,7 @@ use Rattle.client_core.specs.declared.answers.Heard.TheVariants as heard
 use Rattle.client_core.specs.declared.answers.Poll.TheVariants as poll
 use Rattle.client_model.specs.Client.{ClientState, ClientCall, Outgoing, Polled, GivesUp, EndsFence, Sends, Idles, Sending, ClientPart, after_poll, after_reply, again, at_moment, flight_under, anew, fence_first, first_some, has_room_in_flight, head_of, next_id, sendable, to_give_up, to_send, to_send_again}
 use Rattle.client_model.specs.Client as client
+use Rattle.wire_loop.specs.Serves.{Incoming}
 use Rattle.wire_loop.specs.Driving.{Driving, Printed, is_fruitful, polls, frame_of}
 use Rattle.client_model.specs.Hearing.{Hearing, HearsBad, HearsOther, HearsLate, HearsUnfit, HearsReply, after_hearing, hearing, heard_in_flight, heard_judged, is_fit, is_reply}
 use Rattle.wire_loop.specs.Outside.{ClockAnswers, Received}
@@ -176,7 +177,7 @@ busy_receives (Sends items) rs busy = tt
 busy_receives Idles rs busy = absurd busy
 
 -- ---- the whole poll, by what the client answered
-module _ (node : Peer) (s new : ClientState) (t : ℕ) (coming coming' sent sent' : Option (List Message)) where
+module _ (node : Peer) (s new : ClientState) (t : ℕ) (coming coming' : Incoming) (sent sent' : Option (List Message)) where
   pub polled_sent : (len : ℕ) (out : List ℕ) → SentSo s (client.poll s t) len out → new ≡ after_poll t (client.poll s t) s → coming' ≡ coming
       → Added (message_to node (take len out) ∷ []) sent sent' → PollsOnce node s new t coming coming' sent sent' fruit.Fruitful
   polled_sent len out so state same added = record {

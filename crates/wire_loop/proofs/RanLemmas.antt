@@ -13,7 +13,7 @@ use Rattle.node_core.specs.Keeping.{KeptNode}
 use Rattle.node_model.specs.Handling.{latest}
 use Rattle.node_model.specs.Nodes.{Record}
 use Rattle.wire_loop.specs.Ran.{Ran}
-use Rattle.wire_loop.specs.Serves.{Gave, GaveOne, IsTold, Serves, Told, clock_of, end_of, message_of}
+use Rattle.wire_loop.specs.Serves.{Gave, GaveOne, Incoming, IsTold, Serves, Told, clock_of, end_of, incoming, message_of}
 use Rattle.wire_loop.specs.Turns.{Turns, fails, idles_by, served_by, serving}
 use Rattle.wire_loop.specs.declared.serving.TurnEnd.{TurnEnd}
 use Rattle.wire_loop.specs.declared.serving.ServeEnd.{ServeEnd}
@@ -35,12 +35,17 @@ added_none (Some xs) = ap Some (sym (append-nil xs))
 pub added_same : {A : Type 0} → (a b : Option (List A)) → b ≡ a → Added [] a b
 added_same a b same = same ∙ added_none a
 
+-- what is to come stands, and so does the count of receivings that gave nothing
+pub incoming_same : {coming coming' : Option (List Message)} {idles idles' : ℕ} → coming' ≡ coming → idles' ≡ idles
+    → incoming coming' idles' ≡ incoming coming idles
+incoming_same same_coming same_idles = λ i. incoming (same_coming i) (same_idles i)
+
 pub added_both : {A : Type 0} → (xs ys : List A) (a b c : Option (List A)) → Added xs a b → Added ys b c → Added (xs ++ ys) a c
 added_both xs ys None b c first second = second ∙ ap (λ o. option_map (λ old. old ++ ys) o) first
 added_both xs ys (Some zs) b c first second =
     second ∙ ap (λ o. option_map (λ old. old ++ ys) o) first ∙ ap Some (append_assoc zs xs ys)
 
-gave_more : (rs : List (Received Peer)) (r : Received Peer) (a b c : Option (List Message)) → Gave rs a b → GaveOne r b c
+gave_more : (rs : List (Received Peer)) (r : Received Peer) (a b c : Incoming) → Gave rs a b → GaveOne r b c
     → Gave (rs ++ r ∷ []) a c
 gave_more [] r a b c first second = (c, subst (λ o. GaveOne r o c) first second, refl)
 gave_more (s ∷ rs) r a b c first second = (first.0, first.1, gave_more rs r first.0 b c first.2 second)

@@ -17,7 +17,7 @@ use Rattle.texts.specs.Texts.{answer_text}
 use Rattle.wire_loop.specs.Driving.{Driving, Printed, NotIssued, Answered, driving_of, is_fruitful, issues, line_of, polls, receives_one, takes_reply, turn, with_fruit}
 use Rattle.wire_loop.specs.Outside.{ClockAnswers, Received}
 use Rattle.wire_loop.specs.Drives.{Drove, HasReceiving, message_to, next_poll, text_of}
-use Rattle.wire_loop.specs.Serves.{Gave, GaveOne, IsTold, Told}
+use Rattle.wire_loop.specs.Serves.{Gave, GaveOne, Incoming, IsTold, Told}
 use Rattle.wire_loop.specs.declared.driving.TurnFault.{TurnFault}
 use Rattle.wire_loop.specs.declared.driving.TurnFault.TheVariants as turn_fault
 use Rattle.wire_loop.specs.declared.driving.Fruit.{Fruit}
@@ -125,7 +125,7 @@ HearsSteps false how before after = TakesSteps how before after
 
 -- what a receiving of an idle poll gave was heard, as in the definition
 pub record ReceivesOnce (old new : ClientState) (grew : Bool)
-    (coming coming' : Option (List Message)) (how : Fruit) : Type 0 where
+    (coming coming' : Incoming) (how : Fruit) : Type 0 where
   pub receive : Received Peer
   pub is_fruit : Bool
   pub gave : GaveOne receive coming coming'
@@ -138,7 +138,7 @@ pub record ReceivesOnce (old new : ClientState) (grew : Bool)
 
 -- the poll is the definition's, with what it sent and received
 pub record PollsOnce (node : Peer) (old new : ClientState) (t : ℕ)
-    (coming coming' sent sent' : Option (List Message)) (how : Fruit) : Type 0 where
+    (coming coming' : Incoming) (sent sent' : Option (List Message)) (how : Fruit) : Type 0 where
   pub receives : List (Received Peer)
   pub sendings : List Bool
   pub frames : List (List ℕ)

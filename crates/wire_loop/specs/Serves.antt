@@ -1,7 +1,7 @@
 -- What a wire and a clock tell of a loop, in the words of the definitions.
 use Rattle.std.specs.Prelude.{◌≡◌, ℕ, List, [], ◌∷◌, Option, map, take, IfSome}
 use Rattle.cl_outside.specs.Clock.{Moments}
-use Rattle.cl_outside.specs.Counts.{LastFailed, NoneFailed}
+use Rattle.cl_outside.specs.Counts.{LastFailed, NoneFailed, Rose}
 use Rattle.cl_outside.specs.Told.{Added, Took}
 use Rattle.cl_outside.specs.Wire.{Message}
 use Rattle.cl_outside.specs.declared.faults.Faults.{Faults}
@@ -22,28 +22,39 @@ clock_of told = record { answers = told.coming; repeats = told.repeated }
 abbrev pub IsTold : ClockAnswers → Option Moments → Type 0
 IsTold clock moments = IfSome moments (λ told. clock ≡ clock_of told)
 
+-- the datagrams to come, where they are told, and how many receivings gave nothing so far
+pub record Incoming : Type 0 where
+  pub messages : Option (List Message)
+  pub idles : ℕ
+
+-- the same, of these
+abbrev pub incoming : Option (List Message) → ℕ → Incoming
+incoming messages idles = record { messages = messages; idles = idles }
+
 -- what one receiving gave, of what was to come before and after
-abbrev pub GaveOne : Received Peer → Option (List Message) → Option (List Message) → Type 0
+abbrev pub GaveOne : Received Peer → Incoming → Incoming → Type 0
 -- a datagram came, cut to the buffer
 GaveOne (Datagram bytes from) before after =
-    (message : Message) × Took (message ∷ []) before after × (bytes ≡ take FRAME_ROOM message.bytes) × (from ≡ message.from)
--- nothing was to come
-GaveOne NothingCame before after = (after ≡ before) × IfSome before (λ messages. messages ≡ [])
+    (message : Message) × Took (message ∷ []) before.messages after.messages × (bytes ≡ take FRAME_ROOM message.bytes)
+    × (from ≡ message.from) × (after.idles ≡ before.idles)
+-- nothing was to come, and that counts as one receiving more that gave nothing
+GaveOne NothingCame before after =
+    (after.messages ≡ before.messages) × IfSome before.messages (λ messages. messages ≡ []) × Rose before.idles after.idles
 GaveOne ReceivingFailed before after = after ≡ before
 
 -- what the receivings gave, in order
-abbrev pub Gave : List (Received Peer) → Option (List Message) → Option (List Message) → Type 0
+abbrev pub Gave : List (Received Peer) → Incoming → Incoming → Type 0
 Gave [] before after = after ≡ before
-Gave (r ∷ rs) before after = (between : Option (List Message)) × GaveOne r before between × Gave rs between after
+Gave (r ∷ rs) before after = (between : Incoming) × GaveOne r before between × Gave rs between after
 
 -- what a wire and a clock tell
 pub record Told : Type 0 where
-  pub coming : Option (List Message)
+  pub coming : Incoming
   pub sent : Option (List Message)
   pub moments : Option Moments
 
 -- the same, of these
-abbrev pub told_of : Option (List Message) → Option (List Message) → Option Moments → Told
+abbrev pub told_of : Incoming → Option (List Message) → Option Moments → Told
 told_of coming sent moments = record { coming = coming; sent = sent; moments = moments }
 
 -- ---- serving a node

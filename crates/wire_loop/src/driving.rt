@@ -13,7 +13,7 @@ ghost use Rattle.wire_loop.specs.Driving.{NotIssued, line_of};
 ghost use Rattle.wire_loop.specs.Printing.{printed_text};
 ghost use Rattle.wire_loop.specs.Drives.{CameTo, CountsDrive, text_of};
 ghost use Rattle.wire_loop.specs.Driven.{BrokeIssuing, BrokeTurning, CountsFruit, CountsWire, CountsWritten, HearsSteps, IsBetweenTurns, IsFruit, Issued, PollsOnce, ReceivesOnce, TakesSteps, TurnsOnce, answered_by, answered_text, fails, lines_by, printed_by};
-ghost use Rattle.wire_loop.specs.Serves.{told_of};
+ghost use Rattle.wire_loop.specs.Serves.{incoming, told_of};
 ghost use Rattle.wire_loop.specs.Steps.{steps_left};
 
 use call_text::issue;
@@ -192,7 +192,7 @@ fn fruit_of(grew: bool, taken: bool) -> Fruit
 fn receive<W: Wire>(client: &mut Client, wire: &mut W, frame: &mut [u8], grew: bool) -> Fruit
     requires room { length frame.old ≡ FRAME_ROOM }
     ensures receives { ReceivesOnce client.old client.new grew
-        (W.coming wire.old) (W.coming wire.new) result }
+        (incoming (W.coming wire.old) (W.idles wire.old)) (incoming (W.coming wire.new) (W.idles wire.new)) result }
     ensures sent { W.sent wire.new ≡ W.sent wire.old }
     ensures bind { W.last_bind wire.new ≡ W.last_bind wire.old }
     ensures counted { CountsFruit (W.faults wire.old) (W.faults wire.new) result }
@@ -223,7 +223,8 @@ fn poll_once<W: Wire>(
     requires moment { client.old.last ≤ now }
     requires room { length frame.old ≡ FRAME_ROOM }
     ensures polls { PollsOnce node client.old client.new now
-        (W.coming wire.old) (W.coming wire.new) (W.sent wire.old) (W.sent wire.new) result }
+        (incoming (W.coming wire.old) (W.idles wire.old)) (incoming (W.coming wire.new) (W.idles wire.new))
+        (W.sent wire.old) (W.sent wire.new) result }
     ensures bind { W.last_bind wire.new ≡ W.last_bind wire.old }
     ensures counted { CountsFruit (W.faults wire.old) (W.faults wire.new) result }
     ensures failed { result ≡ Fruit.Failed → client.new.ended ≡ client.old.ended }
@@ -357,12 +358,12 @@ fn drive_once<W: Wire, C: Clock, K: Sink>(
     requires between { IsBetweenTurns calls.now client.old next.old }
     ensures turns { IfOk result (λ how. TurnsOnce calls.now node client.old client.new
         next.old next.new lines.old lines.new
-        (told_of (W.coming wire.old) (W.sent wire.old) (C.moments clock.old))
-        (told_of (W.coming wire.new) (W.sent wire.new) (C.moments clock.new))
+        (told_of (incoming (W.coming wire.old) (W.idles wire.old)) (W.sent wire.old) (C.moments clock.old))
+        (told_of (incoming (W.coming wire.new) (W.idles wire.new)) (W.sent wire.new) (C.moments clock.new))
         (K.written sink.old) (K.written sink.new) how) }
     ensures broke { OnErr result (BrokeTurning calls.now node client.old next.old lines.old
-        (told_of (W.coming wire.old) (W.sent wire.old) (C.moments clock.old))
-        (told_of (W.coming wire.new) (W.sent wire.new) (C.moments clock.new))
+        (told_of (incoming (W.coming wire.old) (W.idles wire.old)) (W.sent wire.old) (C.moments clock.old))
+        (told_of (incoming (W.coming wire.new) (W.idles wire.new)) (W.sent wire.new) (C.moments clock.new))
         (K.written sink.old) (K.written sink.new)) }
     ensures between { OnOk result (IsBetweenTurns calls.now client.new next.new) }
     ensures steps { IfOk result (λ how. TakesSteps how
@@ -408,11 +409,12 @@ pub fn drive<W: Wire, C: Clock, K: Sink>(
     clock: &mut C,
     sink: &mut K,
 ) -> DriveEnd
-    requires new { client.old ≡ new_client client.old.client client.old.pid }
+    requires new { client.old ≡ record (new_client client.old.client client.old.pid) {
+        sendings = client.old.sendings; last = client.old.last } }
     requires few { length script.now.calls ≤ INPUT_LINES }
     ensures drives { CameTo client.old client.new script.now.calls node
-        (told_of (W.coming wire.old) (W.sent wire.old) (C.moments clock.old))
-        (told_of (W.coming wire.new) (W.sent wire.new) (C.moments clock.new))
+        (told_of (incoming (W.coming wire.old) (W.idles wire.old)) (W.sent wire.old) (C.moments clock.old))
+        (told_of (incoming (W.coming wire.new) (W.idles wire.new)) (W.sent wire.new) (C.moments clock.new))
         (K.written sink.old) (K.written sink.new) result }
     ensures counts { CountsDrive (W.faults wire.old) (W.faults wire.new)
         (K.faults sink.old) (K.faults sink.new) result }

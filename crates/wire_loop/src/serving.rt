@@ -2,7 +2,7 @@
 
 ghost use Rattle.std.specs.Prelude.{◌≡◌, ◌≤◌, length};
 ghost use Rattle.cl_types.specs.declared.limits.TheConstants.{FRAME_ROOM};
-ghost use Rattle.wire_loop.specs.Serves.{CountsServe, Serves, told_of};
+ghost use Rattle.wire_loop.specs.Serves.{CountsServe, Serves, incoming, told_of};
 ghost use Rattle.wire_loop.specs.Turns.{Answers, CountsTurn, IsAfterDatagram, Turns};
 
 use cl_outside::{Clock, Peer, Recv, Sent, Wire};
@@ -46,7 +46,7 @@ fn answer<W: Wire>(
         from now bytes.now result }
     ensures came { IsAfterDatagram result }
     ensures last { node.new.last ≡ now }
-    ensures coming { W.coming wire.new ≡ W.coming wire.old }
+    ensures coming { incoming (W.coming wire.new) (W.idles wire.new) ≡ incoming (W.coming wire.old) (W.idles wire.old) }
     ensures counts { CountsTurn (W.faults wire.old) (W.faults wire.new) result }
     ensures bind { W.last_bind wire.new ≡ W.last_bind wire.old }
     ensures size { length out.new ≡ FRAME_ROOM }
@@ -76,8 +76,8 @@ fn turn<W: Wire, C: Clock>(
     requires frame_room { length frame.old ≡ FRAME_ROOM }
     requires out_room { length out.old ≡ FRAME_ROOM }
     ensures turns { Turns node.old node.new
-        (told_of (W.coming wire.old) (W.sent wire.old) (C.moments clock.old))
-        (told_of (W.coming wire.new) (W.sent wire.new) (C.moments clock.new))
+        (told_of (incoming (W.coming wire.old) (W.idles wire.old)) (W.sent wire.old) (C.moments clock.old))
+        (told_of (incoming (W.coming wire.new) (W.idles wire.new)) (W.sent wire.new) (C.moments clock.new))
         result }
     ensures counts { CountsTurn (W.faults wire.old) (W.faults wire.new) result }
     ensures bind { W.last_bind wire.new ≡ W.last_bind wire.old }
@@ -107,8 +107,8 @@ pub fn serve<W: Wire, C: Clock>(
     requires frames { 1 ≤ frames }
     requires idles { 1 ≤ idles }
     ensures serves { Serves frames idles node.old node.new
-        (told_of (W.coming wire.old) (W.sent wire.old) (C.moments clock.old))
-        (told_of (W.coming wire.new) (W.sent wire.new) (C.moments clock.new))
+        (told_of (incoming (W.coming wire.old) (W.idles wire.old)) (W.sent wire.old) (C.moments clock.old))
+        (told_of (incoming (W.coming wire.new) (W.idles wire.new)) (W.sent wire.new) (C.moments clock.new))
         result }
     ensures counts { CountsServe (W.faults wire.old) (W.faults wire.new) result }
     ensures bind { W.last_bind wire.new ≡ W.last_bind wire.old }

@@ -1,7 +1,7 @@
 use Rattle.std.proofs.Common.{Some, Err, ap, refl, subst}
 use Rattle.cl_outside.specs.Counts.{LastFailed, NoneFailed}
 use Rattle.texts.specs.Commands.{Drive}
-use Rattle.wire_loop.specs.Serves.{told_of}
+use Rattle.wire_loop.specs.Serves.{incoming, told_of}
 use Rattle.clio_cli.specs.Run.{network, outside, streams}
 use Rattle.clio_cli.specs.Wanted.{CountsHalt, IsScriptedOf}
 use Rattle.clio_cli.specs.declared.input.Halt.{Halt}
@@ -18,9 +18,9 @@ drive_words-requires-clause-few g c =
 pub returns-in-Ok-Refused : goal.returns-in-Ok-Refused
 returns-in-Ok-Refused g c =
     let before = (outside (streams (g.S.Source.left c.args.source.now) (g.S.Source.faults c.args.source.now) (g.K.Sink.written c.args.sink.now) (g.K.Sink.faults c.args.sink.now))
-    (network (told_of (g.W.Wire.coming c.args.wire.now) (g.W.Wire.sent c.args.wire.now) (g.C.Clock.moments c.args.clock.now)) (g.W.Wire.last_bind c.args.wire.now) (g.W.Wire.faults c.args.wire.now))) in
+    (network (told_of (incoming (g.W.Wire.coming c.args.wire.now) (g.W.Wire.idles c.args.wire.now)) (g.W.Wire.sent c.args.wire.now) (g.C.Clock.moments c.args.clock.now)) (g.W.Wire.last_bind c.args.wire.now) (g.W.Wire.faults c.args.wire.now))) in
     let after = (outside (streams (g.S.Source.left c.wanted_script.new.source) (g.S.Source.faults c.wanted_script.new.source) (g.K.Sink.written c.say.new.sink) (g.K.Sink.faults c.say.new.sink))
-    (network (told_of (g.W.Wire.coming c.args.wire.now) (g.W.Wire.sent c.args.wire.now) (g.C.Clock.moments c.args.clock.now)) (g.W.Wire.last_bind c.args.wire.now) (g.W.Wire.faults c.args.wire.now))) in
+    (network (told_of (incoming (g.W.Wire.coming c.args.wire.now) (g.W.Wire.idles c.args.wire.now)) (g.W.Wire.sent c.args.wire.now) (g.C.Clock.moments c.args.clock.now)) (g.W.Wire.last_bind c.args.wire.now) (g.W.Wire.faults c.args.wire.now))) in
     let scripted = subst (IsScriptedOf (g.S.Source.left c.args.source.now) (g.S.Source.left c.wanted_script.new.source)) c.in-Ok-Refused.field-0-is c.in-Ok-Refused.ensures.wanted in
     in_text (Some (Drive c.args.words.port c.args.words.client c.args.words.pid)) before after c.args.left.now c.say.result refl
     (unscripted_serves c.args.words.port c.args.words.client c.args.words.pid before.streams after.streams c.args.left.now c.in-Ok-Refused.output scripted c.in-Ok-Refused.ensures.counted c.requires.nothing c.say.result c.say.ensures)
@@ -28,9 +28,9 @@ returns-in-Ok-Refused g c =
 pub returns-in-Ok-Scripted : goal.returns-in-Ok-Scripted
 returns-in-Ok-Scripted g c =
     let before = (outside (streams (g.S.Source.left c.args.source.now) (g.S.Source.faults c.args.source.now) (g.K.Sink.written c.args.sink.now) (g.K.Sink.faults c.args.sink.now))
-    (network (told_of (g.W.Wire.coming c.args.wire.now) (g.W.Wire.sent c.args.wire.now) (g.C.Clock.moments c.args.clock.now)) (g.W.Wire.last_bind c.args.wire.now) (g.W.Wire.faults c.args.wire.now))) in
+    (network (told_of (incoming (g.W.Wire.coming c.args.wire.now) (g.W.Wire.idles c.args.wire.now)) (g.W.Wire.sent c.args.wire.now) (g.C.Clock.moments c.args.clock.now)) (g.W.Wire.last_bind c.args.wire.now) (g.W.Wire.faults c.args.wire.now))) in
     let after = (outside (streams (g.S.Source.left c.wanted_script.new.source) (g.S.Source.faults c.wanted_script.new.source) (g.K.Sink.written c.drive_words.new.sink) (g.K.Sink.faults c.drive_words.new.sink))
-    (network (told_of (g.W.Wire.coming c.drive_words.new.wire) (g.W.Wire.sent c.drive_words.new.wire) (g.C.Clock.moments c.drive_words.new.clock)) (g.W.Wire.last_bind c.drive_words.new.wire) (g.W.Wire.faults c.drive_words.new.wire))) in
+    (network (told_of (incoming (g.W.Wire.coming c.drive_words.new.wire) (g.W.Wire.idles c.drive_words.new.wire)) (g.W.Wire.sent c.drive_words.new.wire) (g.C.Clock.moments c.drive_words.new.clock)) (g.W.Wire.last_bind c.drive_words.new.wire) (g.W.Wire.faults c.drive_words.new.wire))) in
     let scripted = subst (IsScriptedOf (g.S.Source.left c.args.source.now) (g.S.Source.left c.wanted_script.new.source)) c.in-Ok-Scripted.field-0-is c.in-Ok-Scripted.ensures.wanted in
     client_serves c.args.words.port c.args.words.client c.args.words.pid c.in-Ok-Scripted.script.calls before after c.drive_words.new.left c.drive_words.result
     (record { bytes = scripted.0; input = scripted.1; script = scripted.2; faults = c.in-Ok-Scripted.ensures.counted }) c.drive_words.ensures
@@ -38,9 +38,9 @@ returns-in-Ok-Scripted g c =
 pub returns-in-Err-ReadFault : goal.returns-in-Err-ReadFault
 returns-in-Err-ReadFault g c =
     let before = (outside (streams (g.S.Source.left c.args.source.now) (g.S.Source.faults c.args.source.now) (g.K.Sink.written c.args.sink.now) (g.K.Sink.faults c.args.sink.now))
-    (network (told_of (g.W.Wire.coming c.args.wire.now) (g.W.Wire.sent c.args.wire.now) (g.C.Clock.moments c.args.clock.now)) (g.W.Wire.last_bind c.args.wire.now) (g.W.Wire.faults c.args.wire.now))) in
+    (network (told_of (incoming (g.W.Wire.coming c.args.wire.now) (g.W.Wire.idles c.args.wire.now)) (g.W.Wire.sent c.args.wire.now) (g.C.Clock.moments c.args.clock.now)) (g.W.Wire.last_bind c.args.wire.now) (g.W.Wire.faults c.args.wire.now))) in
     let after = (outside (streams (g.S.Source.left c.wanted_script.new.source) (g.S.Source.faults c.wanted_script.new.source) (g.K.Sink.written c.args.sink.now) (g.K.Sink.faults c.args.sink.now))
-    (network (told_of (g.W.Wire.coming c.args.wire.now) (g.W.Wire.sent c.args.wire.now) (g.C.Clock.moments c.args.clock.now)) (g.W.Wire.last_bind c.args.wire.now) (g.W.Wire.faults c.args.wire.now))) in
+    (network (told_of (incoming (g.W.Wire.coming c.args.wire.now) (g.W.Wire.idles c.args.wire.now)) (g.W.Wire.sent c.args.wire.now) (g.C.Clock.moments c.args.clock.now)) (g.W.Wire.last_bind c.args.wire.now) (g.W.Wire.faults c.args.wire.now))) in
     let failed : LastFailed (g.S.Source.faults c.args.source.now) (g.S.Source.faults c.wanted_script.new.source) =
     subst (λ why. CountsHalt {A = WantedScript} (g.S.Source.faults c.args.source.now) (g.S.Source.faults c.wanted_script.new.source) (Err why)) c.in-Err-ReadFault.field-0-is c.in-Err-ReadFault.ensures.counted in
     let command = Some (Drive c.args.words.port c.args.words.client c.args.words.pid) in
@@ -50,9 +50,9 @@ returns-in-Err-ReadFault g c =
 pub returns-in-Err-NoMemory : goal.returns-in-Err-NoMemory
 returns-in-Err-NoMemory g c =
     let before = (outside (streams (g.S.Source.left c.args.source.now) (g.S.Source.faults c.args.source.now) (g.K.Sink.written c.args.sink.now) (g.K.Sink.faults c.args.sink.now))
-    (network (told_of (g.W.Wire.coming c.args.wire.now) (g.W.Wire.sent c.args.wire.now) (g.C.Clock.moments c.args.clock.now)) (g.W.Wire.last_bind c.args.wire.now) (g.W.Wire.faults c.args.wire.now))) in
+    (network (told_of (incoming (g.W.Wire.coming c.args.wire.now) (g.W.Wire.idles c.args.wire.now)) (g.W.Wire.sent c.args.wire.now) (g.C.Clock.moments c.args.clock.now)) (g.W.Wire.last_bind c.args.wire.now) (g.W.Wire.faults c.args.wire.now))) in
     let after = (outside (streams (g.S.Source.left c.wanted_script.new.source) (g.S.Source.faults c.wanted_script.new.source) (g.K.Sink.written c.args.sink.now) (g.K.Sink.faults c.args.sink.now))
-    (network (told_of (g.W.Wire.coming c.args.wire.now) (g.W.Wire.sent c.args.wire.now) (g.C.Clock.moments c.args.clock.now)) (g.W.Wire.last_bind c.args.wire.now) (g.W.Wire.faults c.args.wire.now))) in
+    (network (told_of (incoming (g.W.Wire.coming c.args.wire.now) (g.W.Wire.idles c.args.wire.now)) (g.W.Wire.sent c.args.wire.now) (g.C.Clock.moments c.args.clock.now)) (g.W.Wire.last_bind c.args.wire.now) (g.W.Wire.faults c.args.wire.now))) in
     let none : NoneFailed (g.S.Source.faults c.args.source.now) (g.S.Source.faults c.wanted_script.new.source) =
     subst (λ why. CountsHalt {A = WantedScript} (g.S.Source.faults c.args.source.now) (g.S.Source.faults c.wanted_script.new.source) (Err why)) c.in-Err-NoMemory.field-0-is c.in-Err-NoMemory.ensures.counted in
     let command = Some (Drive c.args.words.port c.args.words.client c.args.words.pid) in

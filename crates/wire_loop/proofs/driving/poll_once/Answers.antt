@@ -3,6 +3,7 @@ use Rattle.client_model.specs.Client.{Idles, poll}
 use Rattle.wire_loop.proofs.PollLemmas.{SentSo, busy_takes, ended_is, gave_up_is, idle_is, idle_takes, polled_failed, polled_idle, polled_issued, polled_quiet, polled_sent, quiet_busy, sent_so}
 use Rattle.wire_loop.specs.declared.driving.Fruit.TheVariants as fruit
 use Rattle.wire_loop.proofs.StepLemmas.{IsBusy, polls_of}
+use Rattle.wire_loop.proofs.RanLemmas.{incoming_same}
 use Rattle.wire_loop.proofs.driving.poll_once.Goals as goal
 
 pub returns-in-GaveUp-clause-polls : goal.returns-in-GaveUp-clause-polls
@@ -27,7 +28,7 @@ returns-in-Sent-send-clause-polls g c =
     let size : length c.poll.new.out ≡ 1200 = search rules in
     let so : SentSo s (poll s c.args.now) c.in-Sent.len c.poll.new.out =
     sent_so s (poll s c.args.now) c.in-Sent.len c.in-Sent.part c.in-Sent.id c.in-Sent.orig c.in-Sent.again _ c.poll.new.out c.in-Sent.ensures.answer c.poll.ensures.bytes c.requires.room size in
-    polled_sent c.args.node s c.poll.new.self c.args.now _ _ _ _ c.in-Sent.len c.poll.new.out so c.poll.ensures.state c.send.ensures.coming c.in-Sent-send.ensures.sent
+    polled_sent c.args.node s c.poll.new.self c.args.now _ _ _ _ c.in-Sent.len c.poll.new.out so c.poll.ensures.state (incoming_same c.send.ensures.coming c.send.ensures.idles) c.in-Sent-send.ensures.sent
 
 pub returns-in-Failed-clause-polls : goal.returns-in-Failed-clause-polls
 returns-in-Failed-clause-polls g c =
@@ -35,7 +36,7 @@ returns-in-Failed-clause-polls g c =
     let size : length c.poll.new.out ≡ 1200 = search rules in
     let so : SentSo s (poll s c.args.now) c.in-Sent.len c.poll.new.out =
     sent_so s (poll s c.args.now) c.in-Sent.len c.in-Sent.part c.in-Sent.id c.in-Sent.orig c.in-Sent.again _ c.poll.new.out c.in-Sent.ensures.answer c.poll.ensures.bytes c.requires.room size in
-    polled_failed c.args.node s c.poll.new.self c.args.now _ _ _ _ c.in-Sent.len c.poll.new.out so c.poll.ensures.state c.send.ensures.coming c.in-Failed.ensures.sent
+    polled_failed c.args.node s c.poll.new.self c.args.now _ _ _ _ c.in-Sent.len c.poll.new.out so c.poll.ensures.state (incoming_same c.send.ensures.coming c.send.ensures.idles) c.in-Failed.ensures.sent
 
 pub returns-in-Sent-send-clause-issued : goal.returns-in-Sent-send-clause-issued
 returns-in-Sent-send-clause-issued g c = polled_issued c.args.now (poll c.args.client.now c.args.now) c.args.client.now c.poll.new.self c.poll.ensures.state

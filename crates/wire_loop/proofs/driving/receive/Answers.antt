@@ -7,6 +7,7 @@ use Rattle.wire_loop.specs.Outside.{Datagram, NothingCame, ReceivingFailed}
 use Rattle.wire_loop.specs.Driven.{driving}
 use Rattle.wire_loop.proofs.PollLemmas.{as_heard, failed_steps, heard_issued, heard_steps, same_steps}
 use Rattle.wire_loop.specs.Steps.{steps_left}
+use Rattle.wire_loop.proofs.RanLemmas.{incoming_same}
 use Rattle.wire_loop.proofs.driving.receive.Goals as goal
 
 pub returns-in-Got-clause-receives : goal.returns-in-Got-clause-receives
@@ -17,7 +18,7 @@ returns-in-Got-clause-receives g c =
     let same = as_heard c.args.client.now bytes in record {
       receive = Datagram bytes c.in-Got.from;
       is_fruit = c.args.grew || c.hears_reply-taken.result;
-      gave = (got.0, got.1, got.2.bytes ∙ ap (λ n. take n got.0.bytes) room, got.2.from_peer);
+      gave = (got.0, got.1, got.2.bytes ∙ ap (λ n. take n got.0.bytes) room, got.2.from_peer, c.in-Got.ensures.idles);
       fruit = c.fruit_of.ensures.fruit;
       holds = λ script lines clock rest sendings sent printed fruitless j.
           driving ((ap (λ (h : Hearing). after_hearing h c.args.client.now) (sym same) ∙ sym c.hears_reply-taken.ensures.state) j) script lines clock rest sendings sent printed fruitless (sym c.fruit_of.ensures.went j);
@@ -28,7 +29,7 @@ pub returns-in-Idle-clause-receives : goal.returns-in-Idle-clause-receives
 returns-in-Idle-clause-receives g c = record {
   receive = NothingCame;
   is_fruit = c.args.grew || false;
-  gave = c.in-Idle.ensures.coming;
+  gave = (c.in-Idle.ensures.coming.0, c.in-Idle.ensures.coming.1, c.in-Idle.ensures.idles);
   fruit = c.fruit_of-in-Idle.ensures.fruit;
   holds = λ script lines clock rest sendings sent printed fruitless j.
       driving c.args.client.now script lines clock rest sendings sent printed fruitless (sym c.fruit_of-in-Idle.ensures.went j);
@@ -39,7 +40,7 @@ pub returns-in-Failed-clause-receives : goal.returns-in-Failed-clause-receives
 returns-in-Failed-clause-receives g c = record {
   receive = ReceivingFailed;
   is_fruit = c.args.grew || false;
-  gave = c.in-Failed.ensures.coming;
+  gave = incoming_same c.in-Failed.ensures.coming c.in-Failed.ensures.idles;
   fruit = tt;
   holds = λ script lines clock rest sendings sent printed fruitless. refl;
   fruitful = λ rest. refl;

@@ -4,7 +4,7 @@ use Rattle.cl_types.specs.declared.limits.TheConstants.{REPLY_BYTES}
 use Rattle.cl_types.specs.declared.limits.TheConstants.{FRAME_ROOM}
 use Rattle.wire_loop.specs.Turns.{serving}
 use Rattle.wire_loop.proofs.AnswerLemmas.{answers_bad, answers_busy, answers_failed, answers_sent, reply_is_short}
-use Rattle.wire_loop.proofs.RanLemmas.{added_none, added_same}
+use Rattle.wire_loop.proofs.RanLemmas.{added_none, added_same, incoming_same}
 use Rattle.wire_loop.proofs.serving.answer.Goals as goal
 
 pub slice_bounds-send-end : goal.slice_bounds-send-end
@@ -67,3 +67,9 @@ returns-in-Bad-clause-answers g c = record {
       c.handle.new.out _ c.in-Bad.ensures.answer
       ∙ (λ j. serving (sym c.handle.ensures.node j).node c.args.now clock more (others ++ []) served idles false);
 }
+
+pub returns-in-Sent-clause-coming : goal.returns-in-Sent-clause-coming
+returns-in-Sent-clause-coming g c = incoming_same c.send.ensures.coming c.send.ensures.idles
+
+pub returns-in-Failed-clause-coming : goal.returns-in-Failed-clause-coming
+returns-in-Failed-clause-coming g c = incoming_same c.send.ensures.coming c.send.ensures.idles

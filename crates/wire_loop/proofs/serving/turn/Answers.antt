@@ -3,10 +3,10 @@ use Rattle.std.proofs.lemmas.List.{append-nil}
 use Rattle.cl_types.specs.declared.limits.TheConstants.{FRAME_ROOM}
 use Rattle.wire_loop.specs.Outside.{Datagram, NothingCame, ReceivingFailed, moment_of}
 use Rattle.cl_outside.specs.Told.{Added, Took}
-use Rattle.wire_loop.specs.Serves.{IsTold, message_of}
+use Rattle.wire_loop.specs.Serves.{Incoming, IsTold, message_of}
 use Rattle.wire_loop.specs.Turns.{fails, idles_by, served_by, serving}
 use Rattle.wire_loop.proofs.ClockLemmas.{clock_before}
-use Rattle.wire_loop.proofs.RanLemmas.{added_same}
+use Rattle.wire_loop.proofs.RanLemmas.{added_same, incoming_same}
 use Rattle.wire_loop.proofs.TurnLemmas.{turned}
 use Rattle.wire_loop.proofs.serving.turn.Goals as goal
 
@@ -21,9 +21,10 @@ returns-in-Got-clause-turns g c =
       sent = a.sent;
       gave = (
         got.0,
-        subst (λ o. Took (got.0 ∷ []) (g.W.Wire.coming c.args.wire.now) o) (sym c.answer.ensures.coming) got.1,
+        subst (λ o. Took (got.0 ∷ []) (g.W.Wire.coming c.args.wire.now) o) (ap (λ (o : Incoming). o.messages) (sym c.answer.ensures.coming)) got.1,
         got.2.bytes ∙ ap (λ n. take n got.0.bytes) room,
         got.2.from_peer,
+        ap (λ (o : Incoming). o.idles) c.answer.ensures.coming ∙ c.in-Got.ensures.idles,
       );
       messages = subst (λ o. Added (map message_of a.sent) o (g.W.Wire.sent c.answer.new.wire)) c.in-Got.ensures.sent a.messages;
       holds = λ clock is.
@@ -47,7 +48,7 @@ returns-in-Idle-clause-turns g c = record {
   received = NothingCame;
   sendings = [];
   sent = [];
-  gave = c.in-Idle.ensures.coming;
+  gave = (c.in-Idle.ensures.coming.0, c.in-Idle.ensures.coming.1, c.in-Idle.ensures.idles);
   messages = added_same _ _ c.in-Idle.ensures.sent;
   holds = λ clock is. (
     clock,
@@ -62,7 +63,7 @@ returns-in-Failed-clause-turns g c = record {
   received = ReceivingFailed;
   sendings = [];
   sent = [];
-  gave = c.in-Failed.ensures.coming;
+  gave = incoming_same c.in-Failed.ensures.coming c.in-Failed.ensures.idles;
   messages = added_same _ _ c.in-Failed.ensures.sent;
   holds = λ clock is. (
     clock,
