@@ -47,5 +47,7 @@ pub fn time(rt: &HostRuntime) -> io::Result<()> {
     let hundred = exit_nanos(rt, &mut store, 100, 1);
     let many = exit_nanos(rt, &mut store, 10_000, 1);
     let long = exit_nanos(rt, &mut store, 10, 1_000);
-    println!(rt; "exit: 1 range {one} ns, again {again} ns, 100 {hundred} ns, 10,000 {many} ns; 10 of 1,000 pages {long} ns")
+    println!(rt;
+        "exit: 1 range {one} ns, again {again} ns, 100 {hundred} ns, 10,000 {many} ns; 10 of 1,000 pages {long} ns"
+    )
 }

@@ -7,14 +7,15 @@ mod rows;
 mod versions;
 mod watch;
 
-use std::env;
-use std::io;
+use std::{env, io};
 
 fn main(rt: HostRuntime) -> io::Result<()> {
     let mut args = env::args(&rt)?;
     let _program = args.next();
     if args.next().is_none() {
-        return println!(rt; "with any word: times an Exit, objects with versions, and a data frame");
+        return println!(rt;
+            "with any word: times an Exit, objects with versions, and a data frame"
+        );
     }
     exits::time(&rt)?;
     versions::time(&rt)?;

@@ -62,5 +62,7 @@ pub fn time(rt: &HostRuntime) -> io::Result<()> {
     let appends = append_nanos(rt, &mut space, 1_000);
     let first = select_nanos(rt, &mut space, 100, &ANY);
     let all = select_nanos(rt, &mut space, 100, &NONE);
-    println!(rt; "rows: 1,000 appends {appends} ns; 100 selects of 63 rows {first} ns, of none in 1,000 rows {all} ns")
+    println!(rt;
+        "rows: 1,000 appends {appends} ns; 100 selects of 63 rows {first} ns, of none in 1,000 rows {all} ns"
+    )
 }

@@ -61,5 +61,7 @@ pub fn time(rt: &HostRuntime) -> io::Result<()> {
     let oldest = read_nanos(rt, &mut space, 100, 1);
     let middle = read_nanos(rt, &mut space, 100, 2_048);
     let latest = read_nanos(rt, &mut space, 100, 4_096);
-    println!(rt; "versions: 4,096 appends {appends} ns; 100 reads each of version 1 {oldest} ns, 2,048 {middle} ns, 4,096 {latest} ns")
+    println!(rt;
+        "versions: 4,096 appends {appends} ns; 100 reads each of version 1 {oldest} ns, 2,048 {middle} ns, 4,096 {latest} ns"
+    )
 }
