@@ -410,7 +410,9 @@ pub fn drive<W: Wire, C: Clock, K: Sink>(
     sink: &mut K,
 ) -> DriveEnd
     requires new { client.old ≡ record (new_client client.old.client client.old.pid) {
-        sendings = client.old.sendings; last = client.old.last } }
+      sendings = client.old.sendings;
+      last = client.old.last;
+    } }
     requires few { length script.now.calls ≤ INPUT_LINES }
     ensures drives { CameTo client.old client.new script.now.calls node
         (told_of (incoming (W.coming wire.old) (W.idles wire.old)) (W.sent wire.old) (C.moments clock.old))
