@@ -1,0 +1,172 @@
+"""Figures as tables in Markdown. A value in brackets is the least and the greatest of the repetitions."""
+from statistics import median
+
+CALM = 0.05  # of a turn: for so long a calm turn's server was ready and had no processor, at most
+FEWEST = 3  # calm turns that count alone
+SERVERS = ("echo", "plain", "clio", "memcached")
+AIM_PLAIN, AIM_MEMCACHED, AIM_STEP = 0.97, 1.3, 1.15
+AIM_ALLOCS = {"fail": 100, "fail-again": 2, "holes": 100, "holes-again": 2, "end1": 50, "end64": 50}  # microseconds
+
+
+def spread(values, digits=2):
+    """The median, and the least and greatest."""
+    if not values:
+        return "-"
+    return f"{median(values):.{digits}f} ({min(values):.{digits}f}-{max(values):.{digits}f})"
+
+
+def row(cells):
+    return "| " + " | ".join(str(cell) for cell in cells) + " |\n"
+
+
+def head(cells):
+    return row(cells) + "|" + "---|" * len(cells) + "\n"
+
+
+class Run:
+    """The turns of one repetition of a workload and window, by server."""
+
+    def __init__(self, figures):
+        self.turns = {}
+        for turn in figures["turns"]:
+            self.turns.setdefault(turn["name"], []).append(turn)
+
+    def calm(self, names):
+        """The numbers of the turns in which these servers were calm, or of all if these are too few."""
+        every = range(min((len(self.turns.get(name, ())) for name in names), default=0))
+        calm = [nth for nth in every if all(self.turns[name][nth]["waited"] <= CALM * self.turns[name][nth]["took"] for name in names)]
+        return calm if len(calm) >= FEWEST else list(every)
+
+    def values(self, name, value):
+        return [value(self.turns[name][nth]) for nth in self.calm([name])]
+
+    def middle(self, name, value):
+        """The median of a value over the turns of a server, or None without any."""
+        values = self.values(name, value)
+        return median(values) if values else None
+
+    def ratio(self, name, other, value):
+        """The median of how much more of it `name` has than `other`, over the turns; None without any."""
+        ratios = [value(self.turns[name][nth]) / value(self.turns[other][nth]) for nth in self.calm([name, other])]
+        return median(ratios) if ratios else None
+
+
+def processor_time(turn):
+    """Microseconds of the server for a request."""
+    return turn["ran"] / turn["requests"] / 1000
+
+
+def speed(turn):
+    """Requests a second."""
+    return turn["requests"] / turn["took"] * 1e9
+
+
+def grouped(served):
+    """The runs of each workload and window."""
+    groups = {}
+    for figures in served:
+        groups.setdefault((figures["workload"], figures["window"]), []).append(Run(figures))
+    return groups
+
+
+def known(values):
+    return [value for value in values if value is not None]
+
+
+def verdict(value, aim, is_least):
+    """The mark of a missed aim."""
+    if value is None:
+        return ""
+    return "" if (value >= aim if is_least else value <= aim) else " missed"
+
+
+def ratio_cell(runs, name, aim=None):
+    """How many times `name`'s processor time the node's is the divisor of."""
+    ratios = known([run.ratio(name, "clio", processor_time) for run in runs])
+    mark = verdict(median(ratios), aim, True) if ratios and aim else ""
+    return spread(ratios) + mark
+
+
+def share_of_calm(runs):
+    """How many of the turns of all servers were calm."""
+    calm = sum(turn["waited"] <= CALM * turn["took"] for run in runs for turns in run.turns.values() for turn in turns)
+    return f"{100 * calm / sum(len(turns) for run in runs for turns in run.turns.values()):.0f} %"
+
+
+def served_tables(served):
+    groups = grouped(served)
+    text = "Processor time of the server against that of `clio`, more than 1 where `clio` needs less:\n\n"
+    text += head(["workload", "window", f"plain C (aim {AIM_PLAIN})", "echo", f"memcached (aim {AIM_MEMCACHED})", "calm turns"])
+    for (workload, window), runs in groups.items():
+        cells = [ratio_cell(runs, "plain", AIM_PLAIN), ratio_cell(runs, "echo"), ratio_cell(runs, "memcached", AIM_MEMCACHED)]
+        text += row([workload, window, *cells, share_of_calm(runs)])
+    text += "\nMicroseconds of processor time for a request, and thousands of requests a second:\n\n"
+    text += head(["workload", "window", *SERVERS, *(f"{name}, k/s" for name in SERVERS), "clio p50, us", "clio p99, us"])
+    for (workload, window), runs in groups.items():
+        times = [spread(known([run.middle(name, processor_time) for run in runs if name in run.turns])) for name in SERVERS]
+        speeds = [middle_of(runs, name, lambda turn: speed(turn) / 1000, 0) for name in SERVERS]
+        late = [middle_of(runs, "clio", lambda turn, at=at: turn[at] / 1000, 0) for at in ("p50", "p99")]
+        text += row([workload, window, *times, *speeds, *late])
+    return text
+
+
+def middle_of(runs, name, value, digits):
+    values = known([run.middle(name, value) for run in runs if name in run.turns])
+    return f"{median(values):.{digits}f}" if values else "-"
+
+
+def steps_table(repetitions):
+    text = "Nanoseconds of a turn without the network; `nothing` is a datagram that is rejected:\n\n"
+    text += head(["request", "echo", "plain C", "clio", f"clio to plain C (aim {AIM_STEP})", "the same, both less `nothing`"])
+    for label in ("nothing", "read64", "read1024", "write64", "write1024", "add"):
+        taken = {name: [one[name][label]["p50"] for one in repetitions] for name in ("echo", "plain", "clio")}
+        ratios = [clio / plain for clio, plain in zip(taken["clio"], taken["plain"])]
+        less = [
+            (one["clio"][label]["p50"] - one["clio"]["nothing"]["p50"]) / (one["plain"][label]["p50"] - one["plain"]["nothing"]["p50"])
+            for one in repetitions
+            if label != "nothing"
+        ]
+        mark = verdict(median(ratios), AIM_STEP, False) if label != "nothing" else ""
+        text += row([label, *(spread(taken[name], 0) for name in taken), spread(ratios) + mark, spread(less)])
+    return text
+
+
+def allocs_table(repetitions):
+    text = "Microseconds of one request, without the network; the median, and in brackets of the repetitions; then the slowest tenth:\n\n"
+    text += head(["request", "median", "nine of ten are below", "aim"])
+    for label in repetitions[0]:
+        middle = [one[label]["p50"] / 1000 for one in repetitions]
+        slow = [one[label]["p90"] / 1000 for one in repetitions]
+        aim = AIM_ALLOCS.get(label)
+        text += row([label, spread(middle, 1), spread(slow, 1), f"{aim}{verdict(median(middle), aim, False)}" if aim else "-"])
+    return text
+
+
+def nodes_table(figures):
+    text = "Thousands of reads of 64 bytes a second, of so many nodes together, each with its load on one processor:\n\n"
+    counts = sorted({one["count"] for one in figures})
+    text += head(["window", *(f"{count} node{'s' if count > 1 else ''}" for count in counts)])
+    for window in sorted({one["window"] for one in figures}):
+        speeds = [[one["speed"] / 1000 for one in figures if one["window"] == window and one["count"] == count] for count in counts]
+        text += row([window, *(spread(values, 0) for values in speeds)])
+    return text
+
+
+def memory_table(figures):
+    text = "Memory of a node that has served nothing, in MiB:\n\n" + head(["pages", "buckets", "records", "resident", "address space"])
+    for one in figures:
+        text += row([one["pages"], one["buckets"], one["records"], f"{one['there'] / 2**20:.1f}", f"{one['asked'] / 2**20:.1f}"])
+    return text
+
+
+TABLES = {"served": served_tables, "steps": steps_table, "allocs": allocs_table, "nodes": nodes_table, "memory": memory_table}
+
+
+def all_tables(figures):
+    """All tables of a run, after a line on what it was run with."""
+    machine = ", ".join(f"{name} {value}" for name, value in figures["machine"].items())
+    text = f"`{figures['command']}`, {figures['date']}. {machine}. Load average before: {figures['load'][0]}; after: {figures['load'][-1]}.\n"
+    for what, table in TABLES.items():
+        if what in figures:
+            text += f"\n## {what}\n\n{table(figures[what])}"
+    return text
