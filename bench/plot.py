@@ -1,4 +1,7 @@
-"""The plot of the processor time per request: a panel for each window, a group for each workload, a bar for each server."""
+"""The plot of the processor time per request: a panel for each window, a group for each workload, a bar for each server.
+
+Each panel has a scale of its own, since with one request outstanding a server falls asleep after each, and waking it is most of the cost.
+"""
 from statistics import median
 from xml.sax.saxutils import escape
 
@@ -7,7 +10,8 @@ from tables import SERVERS, grouped, known, processor_time
 COLOURS = {"echo": "#c4cad1", "plain": "#7d8590", "clio": "#0969da", "memcached": "#bf8700"}
 NAMES = {"echo": "C echo", "plain": "C node without checks", "clio": "clio", "memcached": "memcached"}
 INK, FAINT, RULE = "#1f2328", "#59636e", "#d1d9e0"
-LEFT, TOP, BAR, GAP, PANEL_GAP, HEIGHT, FOOT = 56, 76, 13, 16, 34, 230, 56
+LEFT, TOP, BAR, GAP, PANEL_GAP, HEIGHT, FOOT = 40, 76, 14, 16, 44, 230, 56
+HALO = ' stroke="#ffffff" stroke-width="3" paint-order="stroke"'  # so that a number can be read over a bar
 
 
 def text(x, y, words, colour=INK, anchor="start", size=12, extra=""):
@@ -60,14 +64,21 @@ def group(x, scale, workload, servers):
     for nth, name in enumerate(servers):
         drawn += bar(x + nth * BAR, scale, servers[name], name)
         if name == "clio":
-            drawn += text(x + nth * BAR + BAR / 2 - 1, scale.at(max(servers[name])) - 4, f"{median(servers[name]):.1f}", COLOURS[name], "middle", 10)
+            drawn += text(x + nth * BAR + BAR / 2 - 1, scale.at(max(servers[name])) - 4, f"{median(servers[name]):.1f}", COLOURS[name], "middle", 10, HALO)
     return drawn + text(x + len(servers) * BAR / 2, TOP + HEIGHT + 17, workload, INK, "middle", 11)
 
 
-def panel(x, scale, window, workloads):
+def axis(x, scale, width):
+    """The marks of a scale, each with a rule."""
+    drawn = "".join(line(x, scale.at(mark), x + width, scale.at(mark), RULE) for mark in scale.marks())
+    return drawn + "".join(text(x - 6, scale.at(mark) + 4, mark, FAINT, "end", 11) for mark in scale.marks())
+
+
+def panel(x, window, workloads):
     """The groups of a window, and how wide they are."""
     width = sum(len(servers) * BAR + GAP for servers in workloads.values())
-    drawn = "".join(line(x, scale.at(mark), x + width, scale.at(mark), RULE) for mark in scale.marks())
+    scale = Scale(max(max(values) for servers in workloads.values() for values in servers.values()))
+    drawn = axis(x, scale, width)
     drawn += text(x + width / 2, TOP + HEIGHT + 38, f"window {window}", FAINT, "middle")
     at = x + GAP / 2
     for workload, servers in workloads.items():
@@ -88,11 +99,9 @@ def drawn(figures):
     """The whole picture."""
     found = figures_of(figures["served"])
     servers = [name for name in SERVERS if any(name in one for workloads in found.values() for one in workloads.values())]
-    scale = Scale(max(max(values) for workloads in found.values() for one in workloads.values() for values in one.values()))
     body, at = legend(servers), LEFT
-    body += "".join(text(LEFT - 8, scale.at(mark) + 4, mark, FAINT, "end", 11) for mark in scale.marks())
     for window, workloads in sorted(found.items()):
-        part, width = panel(at, scale, window, workloads)
+        part, width = panel(at, window, workloads)
         body += part
         at += width + PANEL_GAP
     title = text(LEFT, 24, "Processor time of the server per request, in microseconds", INK, size=15)
