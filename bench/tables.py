@@ -115,24 +115,38 @@ def middle_of(runs, name, value, digits):
     return f"{median(values):.{digits}f}" if values else "-"
 
 
+def turn_of(one, name, label):
+    """Nanoseconds of a turn with such a request, in one repetition."""
+    return one[name][label]["p50"]
+
+
+def step_of(one, name, label):
+    """The same without what a rejected datagram takes."""
+    return turn_of(one, name, label) - turn_of(one, name, "nothing")
+
+
 def steps_table(repetitions):
-    text = "Nanoseconds of a turn without the network; `nothing` is a datagram that is rejected:\n\n"
-    text += head(["request", "echo", "plain C", "clio", f"clio to plain C (aim {AIM_STEP})", "the same, both less `nothing`"])
+    text = "Nanoseconds of a turn without the network. A step is a turn less that of `nothing`, a datagram that is rejected:\n\n"
+    columns = ["request", "echo, turn", "plain C, turn", "clio, turn", "clio to plain C, turns"]
+    text += head([*columns, "plain C, step", "clio, step", f"clio to plain C, steps (aim {AIM_STEP})"])
     for label in ("nothing", "read64", "read1024", "write64", "write1024", "add"):
-        taken = {name: [one[name][label]["p50"] for one in repetitions] for name in ("echo", "plain", "clio")}
-        ratios = [clio / plain for clio, plain in zip(taken["clio"], taken["plain"])]
-        less = [
-            (one["clio"][label]["p50"] - one["clio"]["nothing"]["p50"]) / (one["plain"][label]["p50"] - one["plain"]["nothing"]["p50"])
-            for one in repetitions
-            if label != "nothing"
-        ]
-        mark = verdict(median(ratios), AIM_STEP, False) if label != "nothing" else ""
-        text += row([label, *(spread(taken[name], 0) for name in taken), spread(ratios) + mark, spread(less)])
+        turns = {name: [turn_of(one, name, label) for one in repetitions] for name in ("echo", "plain", "clio")}
+        cells = [label, *(spread(turns[name], 0) for name in turns), ratios_of(turns)]
+        if label != "nothing":
+            steps = {name: [step_of(one, name, label) for one in repetitions] for name in ("plain", "clio")}
+            cells += [*(spread(steps[name], 0) for name in steps), ratios_of(steps, AIM_STEP)]
+        text += row(cells + ["-"] * (8 - len(cells)))
     return text
 
 
+def ratios_of(taken, aim=None):
+    """What the node takes to what the plain node takes, by repetition, with a mark if an aim is missed."""
+    ratios = [clio / plain for clio, plain in zip(taken["clio"], taken["plain"])]
+    return spread(ratios) + (verdict(median(ratios), aim, False) if aim else "")
+
+
 def allocs_table(repetitions):
-    text = "Microseconds of one request, without the network; the median, and in brackets of the repetitions; then the slowest tenth:\n\n"
+    text = "Microseconds of a turn with one request, without the network:\n\n"
     text += head(["request", "median", "nine of ten are below", "aim"])
     for label in repetitions[0]:
         middle = [one[label]["p50"] / 1000 for one in repetitions]
@@ -152,10 +166,40 @@ def nodes_table(figures):
     return text
 
 
+def slope(figures, size, field):
+    """Bytes for one more of a size: of two nodes that differ in it alone, the one with less of it first."""
+    sizes = ("pages", "buckets", "records")
+    for small in figures:
+        for large in figures:
+            if large[size] > small[size] and all(large[other] == small[other] for other in sizes if other != size):
+                return (large[field] - small[field]) / (large[size] - small[size])
+    raise ValueError(f"no two nodes differ in their {size} alone")
+
+
+class Formula:
+    """Bytes of a node as a sum over its pages, buckets and records."""
+
+    def __init__(self, figures, field):
+        self.slopes = {size: slope(figures, size, field) for size in ("pages", "buckets", "records")}
+        self.base = 0
+        self.base = figures[0][field] - self.of(figures[0])
+
+    def of(self, sizes):
+        return self.base + sum(each * sizes[size] for size, each in self.slopes.items())
+
+    def text(self):
+        pages, buckets, records = (f"{each:.0f}" for each in self.slopes.values())
+        return f"{pages} bytes a page, {buckets} a bucket, {records} a record, and {self.base / 2**20:.1f} MiB"
+
+
 def memory_table(figures):
-    text = "Memory of a node that has served nothing, in MiB:\n\n" + head(["pages", "buckets", "records", "resident", "address space"])
+    """The formulas come from all nodes but the last, which they are compared with."""
+    asked, there = Formula(figures, "asked"), Formula(figures, "there")
+    text = f"Address space: {asked.text()}. Resident before any request: {there.text()}. In MiB:\n\n"
+    text += head(["pages", "buckets", "records", "address space", "by the formula", "resident", "by the formula"])
     for one in figures:
-        text += row([one["pages"], one["buckets"], one["records"], f"{one['there'] / 2**20:.1f}", f"{one['asked'] / 2**20:.1f}"])
+        sizes = [one[size] for size in ("pages", "buckets", "records")]
+        text += row(sizes + [f"{bytes_ / 2**20:.1f}" for bytes_ in (one["asked"], asked.of(one), one["there"], there.of(one))])
     return text
 
 
