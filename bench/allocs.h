@@ -6,13 +6,17 @@
    free64           the Free of the latter, which makes the next failing Alloc a first one
    fail             1,024 pages of the nearly full space, where no start fits, after a Free
    fail-again       the same once more
-   holes, holes-again   HOLE + 1 pages of the space of holes, after a Free of it, and once more */
+   holes, holes-again   HOLE + 1 pages of the space of holes, after a Free of it, and once more
+
+   The frames of `table` are for a node of two buckets, whose page table process 1 fills:
+
+   table, table-again   one page for process 2, after a Free, and once more */
 #ifndef ALLOCS_H
 #define ALLOCS_H
 #include "basics.h"
 #include "frames.h"
 
-enum { HOLE = 256, FULL_RANGES = 63, HOLE_RANGES = 255, END_PAGE = 1 + FULL_RANGES * RANGE_PAGES };
+enum { TABLE_PAGES = 8, HOLE = 256, FULL_RANGES = 63, HOLE_RANGES = 255, END_PAGE = 1 + FULL_RANGES * RANGE_PAGES };
 
 static struct { size_t rounds, made; uint64_t next_id; } allocs = { .next_id = 1 };
 
@@ -62,7 +66,20 @@ static void alloc_of_round(struct batch *batch, size_t nth)
 }
 enum { ALLOCS_OF_ROUND = 10, FILLING = FULL_RANGES + HOLE_RANGES + HOLE_RANGES / 2 };
 
-/* The next batch; false if there is none. */
+/* The next batch of `table`; false if there is none. */
+static bool next_of_table(struct batch *batch)
+{
+    size_t nth = allocs.made++;
+    if (nth == allocs.rounds * 4) return false;
+    switch (nth % 4) {
+    case 0: ask(batch, NULL, 1, TABLE_PAGES, OK); break;
+    case 1: ask(batch, "table", 2, 1, NO_RANGE); break;
+    case 2: ask(batch, "table-again", 2, 1, NO_RANGE); break;
+    default: give_back(batch, NULL, 1, 1, TABLE_PAGES); break;
+    }
+    return true;
+}
+/* The next batch of `allocs`; false if there is none. */
 static bool next_alloc(struct batch *batch)
 {
     size_t nth = allocs.made++;

@@ -1,9 +1,10 @@
 /* Hands frames to a server without a network: a library that is loaded before the server's own (LD_PRELOAD), and stands for its `recvfrom`,
-   `sendto` and clock. So the program as it was built is measured, and what is left of a turn is the server's own work. The clock goes on
-   by five seconds with each batch, so that no record of the reply cache is inside the deduplication window and no request is refused as busy.
+   `sendto` and clock. So the program as it was built is measured, and what is left of a turn is the server's own work. Times are the thread's time
+   on its processor, so that other work on the machine does not count. The server's clock goes on by five seconds with each batch, so that no record of the reply cache is inside the deduplication window and no request is refused as busy.
 
        BENCH_PLAN=steps  BENCH_COUNT=BATCHES BENCH_PAGES=PAGES   batches of 64 frames, see steps.h
        BENCH_PLAN=allocs BENCH_COUNT=ROUNDS                      Allocs that are timed one by one, see allocs.h
+       BENCH_PLAN=table  BENCH_COUNT=ROUNDS                      the same, for a node of two buckets
        BENCH_OUT=FILE                                            where the figures go
 
    At the end of the plan the figures are written and the process ends with status 0. A line is `LABEL COUNT P10 P25 P50 P75 P90 MOST`: how
@@ -32,7 +33,8 @@ struct batch {
 
 static struct batch batch;
 static size_t handed, replied;
-static uint64_t started, later; /* `later`: by how much the server's clock is ahead */
+static uint64_t started, reading; /* when the batch was begun; how long it takes to read that */
+static uint64_t later;            /* the seconds by which the server's clock is ahead */
 static bool (*next_batch)(struct batch *);
 static struct { const char *label; size_t count; uint64_t figures[MOST_FIGURES]; } labels[MOST_LABELS];
 
@@ -46,6 +48,21 @@ int clock_gettime(clockid_t which, struct timespec *time)
     int status = system_clock(which, time);
     time->tv_sec += (time_t)later;
     return status;
+}
+/* The nanoseconds that this thread ran. */
+static uint64_t nanos_run(void)
+{
+    struct timespec time;
+    system_clock(CLOCK_THREAD_CPUTIME_ID, &time);
+    return (uint64_t)time.tv_sec * NANOS_PER_SECOND + (uint64_t)time.tv_nsec;
+}
+static void time_reading(void)
+{
+    reading = UINT64_MAX;
+    for (int nth = 0; nth < 1000; nth++) {
+        uint64_t before = nanos_run(), took = nanos_run() - before;
+        if (took < reading) reading = took;
+    }
 }
 
 /* ---- the figures ---- */
@@ -84,34 +101,39 @@ static size_t number(const char *name, size_t otherwise)
 static void choose_plan(void)
 {
     const char *plan = getenv("BENCH_PLAN");
-    bool is_steps = !plan || strcmp(plan, "steps") == 0;
-    next_batch = is_steps ? next_steps : next_alloc;
+    if (!plan) give_up("no BENCH_PLAN");
+    next_batch = strcmp(plan, "steps") == 0 ? next_steps : strcmp(plan, "table") == 0 ? next_of_table : next_alloc;
     steps.batches = allocs.rounds = number("BENCH_COUNT", 100);
     steps.pages = (uint32_t)number("BENCH_PAGES", 4096);
 }
 static void end_batch(uint64_t now)
 {
+    uint64_t took = now - started;
     errno = 0;
     if (batch.has_replies && replied != batch.count) give_up("a frame had no reply");
-    if (batch.label) note(batch.label, (now - started) / batch.count);
+    if (batch.label) note(batch.label, (took > reading ? took - reading : 0) / batch.count);
 }
 static void begin_batch(void)
 {
-    if (!next_batch) choose_plan();
+    if (!next_batch) {
+        nanos_now(); /* finds the system's clock */
+        choose_plan();
+        time_reading();
+    }
     if (!next_batch(&batch)) {
         write_figures();
         _exit(0);
     }
     handed = replied = 0;
     later += BATCH_SECONDS;
-    started = nanos_now();
+    started = nanos_run();
 }
 ssize_t recvfrom(int handle, void *restrict to, size_t room, int flags, __SOCKADDR_ARG from, socklen_t *restrict from_len)
 {
     struct sockaddr_in peer = { .sin_family = AF_INET, .sin_port = htons(9), .sin_addr.s_addr = htonl(INADDR_LOOPBACK) };
     (void)handle, (void)flags;
     if (handed == batch.count) {
-        if (batch.count) end_batch(nanos_now());
+        if (batch.count) end_batch(nanos_run());
         begin_batch();
     }
     size_t len = batch.lengths[handed] < room ? batch.lengths[handed] : room;

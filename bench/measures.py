@@ -13,7 +13,7 @@ IDLES = 1000
 MEMCACHED_PORT = 21411
 STEP_PAGES, STEP_BATCHES = 32768, 1000
 ALLOC_ROUNDS = 100
-NODES_SECONDS_OF_TURNS = 12
+NODES_TURNS = 12
 SIZES = ((1024, 1024, 1024), (16384, 16384, 1024), (65536, 16384, 1024), (1024, 65536, 1024), (1024, 1024, 65536), (65536, 65536, 65536))
 
 
@@ -116,18 +116,19 @@ def steps(given):
 def allocs(given):
     """Repetitions of the cost of Allocs that fail or go far."""
     rounds = 3 if given.quick else ALLOC_ROUNDS
-    words = node_words(given, 1024, 65536)
-    return [played(given, words, "allocs", rounds) for _ in range(min(given.repetitions, 3))]
+    spacious, tiny = node_words(given, 1024, 65536), node_words(given, 64, 2)
+    return [{**played(given, spacious, "allocs", rounds), **played(given, tiny, "table", rounds)} for _ in range(min(given.repetitions, 3))]
 
 
-def pairs_at_work(given, count, window):
+def pairs_at_work(given, pairs, window):
     """Requests a second that so many pairs of a node and its load make together, each pair on a processor of its own."""
-    turns = 4 if given.quick else NODES_SECONDS_OF_TURNS
+    turns = 4 if given.quick else NODES_TURNS
+    count = 10000 if window == 1 else 50000
     with Servers() as running:
         loads = []
-        for cpu in range(count):
+        for cpu in range(pairs):
             node = running.add(f"node{cpu}", node_words(given, given.pages, 2048), given.small_pages, cpu)
-            words = [str(here / "out/load"), "read64", str(window), str(given.pages), str(turns), "50000", "sleep", node.word()]
+            words = [str(here / "out/load"), "read64", str(window), str(given.pages), str(turns), str(count), "sleep", node.word()]
             loads.append(subprocess.Popen(on(cpu, words), stdout=subprocess.PIPE, text=True))
         lines = [load.communicate()[0].splitlines() for load in loads]
     if any(load.returncode for load in loads):

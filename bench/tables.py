@@ -5,7 +5,7 @@ CALM = 0.05  # of a turn: for so long a calm turn's server was ready and had no 
 FEWEST = 3  # calm turns that count alone
 SERVERS = ("echo", "plain", "clio", "memcached")
 AIM_PLAIN, AIM_MEMCACHED, AIM_STEP = 0.97, 1.3, 1.15
-AIM_ALLOCS = {"fail": 100, "fail-again": 2, "holes": 100, "holes-again": 2, "end1": 50, "end64": 50}  # microseconds
+AIM_ALLOCS = {"fail": 100, "fail-again": 2, "holes": 100, "holes-again": 2, "table": 100, "table-again": 2, "end1": 50, "end64": 50}  # microseconds
 
 
 def spread(values, digits=2):
