@@ -5,7 +5,9 @@ CALM = 0.05  # of a turn: for so long a calm turn's server was ready and had no 
 FEWEST = 3  # calm turns that count alone
 SERVERS = ("echo", "plain", "clio", "memcached")
 AIM_PLAIN, AIM_MEMCACHED, AIM_STEP = 0.97, 1.3, 1.15
-AIM_ALLOCS = {"fail": 100, "fail-again": 2, "holes": 100, "holes-again": 2, "table": 100, "table-again": 2, "end1": 50, "end64": 50}  # microseconds
+FIRST_FAILURES, REPEATED_FAILURES, FAR = ("fail", "holes", "table"), ("fail-again", "holes-again", "table-again"), ("end1", "end64")
+AIM_ALLOCS = {**dict.fromkeys(FIRST_FAILURES, 100), **dict.fromkeys(REPEATED_FAILURES, 2), **dict.fromkeys(FAR, 50)}  # microseconds
+STEPS = ("read64", "read1024", "write64", "write1024", "add")
 
 
 def spread(values, digits=2):
@@ -129,7 +131,7 @@ def steps_table(repetitions):
     text = "Nanoseconds of a turn without the network. A step is a turn less that of `nothing`, a datagram that is rejected:\n\n"
     columns = ["request", "echo, turn", "plain C, turn", "clio, turn", "clio to plain C, turns"]
     text += head([*columns, "plain C, step", "clio, step", f"clio to plain C, steps (aim {AIM_STEP})"])
-    for label in ("nothing", "read64", "read1024", "write64", "write1024", "add"):
+    for label in ("nothing", *STEPS):
         turns = {name: [turn_of(one, name, label) for one in repetitions] for name in ("echo", "plain", "clio")}
         cells = [label, *(spread(turns[name], 0) for name in turns), ratios_of(turns)]
         if label != "nothing":
@@ -203,6 +205,40 @@ def memory_table(figures):
     return text
 
 
+def aim_row(name, aim, medians, is_least):
+    """How many of these medians reach an aim. None of them is unknown."""
+    if not medians:
+        return ""
+    met = sum(not verdict(value, aim, is_least) for value in medians)
+    return row([name, f"{'at least' if is_least else 'at most'} {aim}", f"{min(medians):.2f} to {max(medians):.2f}", f"{met} of {len(medians)}"])
+
+
+def served_medians(figures, name):
+    """The ratio of a server's processor time to the node's, for each workload and window."""
+    ratios = [known([run.ratio(name, "clio", processor_time) for run in runs]) for runs in grouped(figures.get("served", [])).values()]
+    return [median(each) for each in ratios if each]
+
+
+def step_medians(figures):
+    repetitions = figures.get("steps", [])
+    return [median([step_of(one, "clio", label) / step_of(one, "plain", label) for one in repetitions]) for label in STEPS if repetitions]
+
+
+def alloc_medians(figures, labels):
+    repetitions = figures.get("allocs", [])
+    return [median([one[label]["p50"] / 1000 for one in repetitions]) for label in labels if repetitions]
+
+
+def aims_table(figures):
+    text = head(["aim", "wanted", "measured, least and greatest median", "met by"])
+    text += aim_row("processor time of plain C to that of clio, by workload and window", AIM_PLAIN, served_medians(figures, "plain"), True)
+    text += aim_row("processor time of memcached to that of clio, by workload and window", AIM_MEMCACHED, served_medians(figures, "memcached"), True)
+    text += aim_row("step of clio to that of plain C, by request", AIM_STEP, step_medians(figures), False)
+    text += aim_row("microseconds of an Alloc that fails", 100, alloc_medians(figures, FIRST_FAILURES), False)
+    text += aim_row("microseconds of the same once more", 2, alloc_medians(figures, REPEATED_FAILURES), False)
+    return text + aim_row("microseconds of an Alloc at the end of a nearly full space", 50, alloc_medians(figures, FAR), False)
+
+
 TABLES = {"served": served_tables, "steps": steps_table, "allocs": allocs_table, "nodes": nodes_table, "memory": memory_table}
 
 
@@ -210,6 +246,7 @@ def all_tables(figures):
     """All tables of a run, after a line on what it was run with."""
     machine = ", ".join(f"{name} {value}" for name, value in figures["machine"].items())
     text = f"`{figures['command']}`, {figures['date']}. {machine}. Load average before: {figures['load'][0]}; after: {figures['load'][-1]}.\n"
+    text += f"\n## aims\n\n{aims_table(figures)}"
     for what, table in TABLES.items():
         if what in figures:
             text += f"\n## {what}\n\n{table(figures[what])}"
