@@ -238,6 +238,7 @@ static struct usage usage_of(const struct server *server)
     for (const struct dirent *entry; (entry = readdir(threads));)
         if (entry->d_name[0] != '.') add_thread(&sum, server->process, entry->d_name);
     closedir(threads);
+    if (!sum.ran) give_up("the system does not say how long a process ran (/proc/PROCESS/schedstat)");
     return sum;
 }
 

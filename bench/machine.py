@@ -23,7 +23,7 @@ def description():
     compiler = subprocess.run(["cc", "--version"], capture_output=True, text=True).stdout.splitlines()
     return {
         "processor": first_line_of("/proc/cpuinfo", r"^model name\s*: (.*)$"),
-        "processors": os.cpu_count(),
+        "processors": len(processors()),
         "virtual": "hypervisor" in first_line_of("/proc/cpuinfo", r"^flags\s*: (.*)$", ""),
         "memory": first_line_of("/proc/meminfo", r"^MemTotal:\s*(.*)$"),
         "system": f"{platform.system()} {platform.release()}",
@@ -47,9 +47,14 @@ def environment(small_pages, **more):
     return variables
 
 
-def on(cpu, words):
-    """The words of a command that runs on this processor alone, if one is given."""
-    return words if cpu is None else ["taskset", "-c", str(cpu), *words]
+def processors():
+    """The numbers of the processors that may be used."""
+    return sorted(os.sched_getaffinity(0))
+
+
+def on(cpu):
+    """What lets a new process run on this processor alone, if one is given."""
+    return {} if cpu is None else {"preexec_fn": lambda: os.sched_setaffinity(0, {int(cpu)})}
 
 
 class Server:
@@ -58,7 +63,7 @@ class Server:
     def __init__(self, name, words, small_pages, cpu=None, port=None):
         self.name = name
         self.process = subprocess.Popen(
-            on(cpu, words), stdout=subprocess.PIPE, stderr=subprocess.DEVNULL, text=True, env=environment(small_pages)
+            words, stdout=subprocess.PIPE, stderr=subprocess.DEVNULL, text=True, env=environment(small_pages), **on(cpu)
         )
         self.port = port if port else self.printed_port()
 

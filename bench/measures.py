@@ -1,9 +1,8 @@
 """What is measured. Each function takes the options of the command and returns plain figures."""
-import os
 import pathlib
 import subprocess
 
-from machine import Servers, environment, on, settled
+from machine import Servers, environment, on, processors, settled
 
 here = pathlib.Path(__file__).resolve().parent
 WORKLOADS = ("read64", "read1024", "write64", "write1024", "add")
@@ -57,9 +56,9 @@ def turn_of(line):
     }
 
 
-def loaded(words):
-    """The turns that a load prints."""
-    made = subprocess.run(words, capture_output=True, text=True)
+def loaded(words, cpu):
+    """The turns that a load on this processor prints."""
+    made = subprocess.run(words, capture_output=True, text=True, **on(cpu))
     if made.returncode:
         raise SystemExit(f"{' '.join(words[-6:])}: {made.stderr.strip()}")
     return [turn_of(line) for line in made.stdout.splitlines()]
@@ -81,7 +80,7 @@ def served(given):
                 with Servers() as running:
                     start(given, running)
                     words = [str(here / "out/load"), workload, str(window), str(given.pages), str(given.turns), str(count), "spin"]
-                    turns = loaded(on(cpu, words + [server.word() for server in running.servers]))
+                    turns = loaded(words + [server.word() for server in running.servers], cpu)
                 figures.append({"workload": workload, "window": window, "repetition": repetition, "turns": turns})
     return figures
 
@@ -94,7 +93,7 @@ def played(given, words, plan, count, pages=0):
         given.small_pages, LD_PRELOAD=str(here / "out/inside.so"), BENCH_PLAN=plan, BENCH_COUNT=str(count), BENCH_PAGES=str(pages), BENCH_OUT=str(out)
     )
     cpu, _ = cpus(given)
-    made = subprocess.run(on(cpu, words), env=variables, capture_output=True, text=True)
+    made = subprocess.run(words, env=variables, capture_output=True, text=True, **on(cpu))
     if made.returncode or not out.exists():
         raise SystemExit(f"{words[0]} under {plan}: {made.stderr.strip()}")
     names = ("count", "p10", "p25", "p50", "p75", "p90", "most")
@@ -126,10 +125,10 @@ def pairs_at_work(given, pairs, window):
     count = 10000 if window == 1 else 50000
     with Servers() as running:
         loads = []
-        for cpu in range(pairs):
+        for cpu in processors()[:pairs]:
             node = running.add(f"node{cpu}", node_words(given, given.pages, 2048), given.small_pages, cpu)
             words = [str(here / "out/load"), "read64", str(window), str(given.pages), str(turns), str(count), "sleep", node.word()]
-            loads.append(subprocess.Popen(on(cpu, words), stdout=subprocess.PIPE, text=True))
+            loads.append(subprocess.Popen(words, stdout=subprocess.PIPE, text=True, **on(cpu)))
         lines = [load.communicate()[0].splitlines() for load in loads]
     if any(load.returncode for load in loads):
         raise SystemExit("nodes: a load failed")
@@ -144,7 +143,8 @@ def speed_of(turns):
 
 def nodes(given):
     """Throughput of one pair and of as many as there are processors."""
-    counts = sorted({1, 2, os.cpu_count()})
+    most = len(processors())
+    counts = sorted({1, min(2, most), most})
     return [
         {"window": window, "count": count, "speed": pairs_at_work(given, count, window)}
         for _ in range(min(given.repetitions, 3))

@@ -242,12 +242,30 @@ def aims_table(figures):
 TABLES = {"served": served_tables, "steps": steps_table, "allocs": allocs_table, "nodes": nodes_table, "memory": memory_table}
 
 
-def all_tables(figures):
-    """All tables of a run, after a line on what it was run with."""
+def run_line(figures):
+    """What the run was run with."""
     machine = ", ".join(f"{name} {value}" for name, value in figures["machine"].items())
-    text = f"`{figures['command']}`, {figures['date']}. {machine}. Load average before: {figures['load'][0]}; after: {figures['load'][-1]}.\n"
-    text += f"\n## aims\n\n{aims_table(figures)}"
-    for what, table in TABLES.items():
-        if what in figures:
-            text += f"\n## {what}\n\n{table(figures[what])}"
-    return text
+    return f"`{figures['command']}`, {figures['date']}. {machine}. Load average before: {figures['load'][0]}; after: {figures['load'][-1]}.\n"
+
+
+def all_tables(figures):
+    """The tables of a run, by what they are of."""
+    made = {"run": run_line(figures), "aims": aims_table(figures)}
+    made.update((what, table(figures[what])) for what, table in TABLES.items() if what in figures)
+    return made
+
+
+def as_text(made):
+    """Tables one after the other, each under its name."""
+    return made["run"] + "".join(f"\n## {what}\n\n{text}" for what, text in made.items() if what != "run")
+
+
+def as_page(page, made):
+    """The page with these tables between its marks, `<!-- NAME -->` and `<!-- end of NAME -->`."""
+    for what, text in made.items():
+        before, start, rest = page.partition(f"<!-- {what} -->\n")
+        _, end, after = rest.partition(f"<!-- end of {what} -->\n")
+        if not end:
+            raise SystemExit(f"the page has no marks of {what}")
+        page = f"{before}{start}\n{text}\n{end}{after}"
+    return page
