@@ -86,7 +86,7 @@ def ratio_cell(runs, name, aim=None):
     """How many times `name`'s processor time the node's is the divisor of."""
     ratios = known([run.ratio(name, "clio", processor_time) for run in runs])
     mark = verdict(median(ratios), aim, True) if ratios and aim else ""
-    return spread(ratios) + mark
+    return spread(ratios, 3) + mark
 
 
 def share_of_calm(runs):
@@ -144,7 +144,7 @@ def steps_table(repetitions):
 def ratios_of(taken, aim=None):
     """What the node takes to what the plain node takes, by repetition, with a mark if an aim is missed."""
     ratios = [clio / plain for clio, plain in zip(taken["clio"], taken["plain"])]
-    return spread(ratios) + (verdict(median(ratios), aim, False) if aim else "")
+    return spread(ratios, 3) + (verdict(median(ratios), aim, False) if aim else "")
 
 
 def allocs_table(repetitions):
@@ -205,12 +205,17 @@ def memory_table(figures):
     return text
 
 
+def short(value):
+    """A number with three digits or more."""
+    return f"{value:.0f}" if value >= 100 else f"{value:.3g}"
+
+
 def aim_row(name, aim, medians, is_least):
     """How many of these medians reach an aim. None of them is unknown."""
     if not medians:
         return ""
     met = sum(not verdict(value, aim, is_least) for value in medians)
-    return row([name, f"{'at least' if is_least else 'at most'} {aim}", f"{min(medians):.2f} to {max(medians):.2f}", f"{met} of {len(medians)}"])
+    return row([name, f"{'at least' if is_least else 'at most'} {aim}", f"{short(min(medians))} to {short(max(medians))}", f"{met} of {len(medians)}"])
 
 
 def served_medians(figures, name):
@@ -230,7 +235,7 @@ def alloc_medians(figures, labels):
 
 
 def aims_table(figures):
-    text = head(["aim", "wanted", "measured, least and greatest median", "met by"])
+    text = head(["aim", "wanted", "measured, least and greatest median", "reached"])
     text += aim_row("processor time of plain C to that of clio, by workload and window", AIM_PLAIN, served_medians(figures, "plain"), True)
     text += aim_row("processor time of memcached to that of clio, by workload and window", AIM_MEMCACHED, served_medians(figures, "memcached"), True)
     text += aim_row("step of clio to that of plain C, by request", AIM_STEP, step_medians(figures), False)
