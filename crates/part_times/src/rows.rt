@@ -39,18 +39,21 @@ fn append_nanos(rt: &HostRuntime, space: &mut MemorySpace, count: u32) -> u64
     nanos_since(rt, start)
 }
 
-/// The nanoseconds of so many selects from the first row.
-fn select_nanos(rt: &HostRuntime, space: &mut MemorySpace, count: u32, by: &RowTest) -> u64
+/// The nanoseconds of so many selects, each from one row later on, and the sum of the first bytes that they gave, without which a
+/// compiler could leave the selects out.
+fn select_nanos(rt: &HostRuntime, space: &mut MemorySpace, count: u32, by: &RowTest) -> (u64, u64)
     requires store { IsStore 2 1000 space.old }
     requires by { IsTest 2 by.now }
     ensures { IsStore 2 1000 space.new }
 {
     let mut out = [0; PART_BYTES as usize];
+    let mut sum = 0u64;
     let start = now(rt);
-    for _ in 0..count {
-        let _selected = DF.select(space, 0, by, &mut out);
+    for turn in 0..count {
+        let _selected = DF.select(space, turn, by, &mut out);
+        sum = sum.wrapping_add(u64::from(out[0]));
     }
-    nanos_since(rt, start)
+    (nanos_since(rt, start), sum)
 }
 
 /// Prints the nanoseconds of 1,000 appends, and of selects that give 63 rows and that go through all rows.
@@ -60,9 +63,9 @@ pub fn time(rt: &HostRuntime) -> io::Result<()> {
     };
     DF.init(&mut space);
     let appends = append_nanos(rt, &mut space, 1_000);
-    let first = select_nanos(rt, &mut space, 100, &ANY);
-    let all = select_nanos(rt, &mut space, 100, &NONE);
+    let (first, sum) = select_nanos(rt, &mut space, 100, &ANY);
+    let (all, second) = select_nanos(rt, &mut space, 100, &NONE);
     println!(rt;
-        "rows: 1,000 appends {appends} ns; 100 selects of 63 rows {first} ns, of none in 1,000 rows {all} ns"
+        "rows: 1,000 appends {appends} ns; 100 selects of 63 rows {first} ns, of none in 901 to 1,000 rows {all} ns; first bytes {sum}, {second}"
     )
 }

@@ -30,17 +30,20 @@ fn append_nanos(rt: &HostRuntime, space: &mut MemorySpace, count: u32, bytes: &[
     nanos_since(rt, start)
 }
 
-/// The nanoseconds of so many reads of a version of object 1.
-fn read_nanos(rt: &HostRuntime, space: &mut MemorySpace, count: u32, version: u32) -> u64
+/// The nanoseconds of reads of so many versions of object 1, from this one on, and the sum of the first bytes that they gave,
+/// without which a compiler could leave the reads out.
+fn read_nanos(rt: &HostRuntime, space: &mut MemorySpace, count: u32, version: u32) -> (u64, u64)
     requires store { IsStore 256 4096 space.old }
     ensures { IsStore 256 4096 space.new }
 {
     let mut out = [0; PART_BYTES as usize];
+    let mut sum = 0u64;
     let start = now(rt);
-    for _ in 0..count {
-        let _len = MV.read(space, 1, version, &mut out);
+    for turn in 0..count {
+        let _len = MV.read(space, 1, version.saturating_add(turn), &mut out);
+        sum = sum.wrapping_add(u64::from(out[0]));
     }
-    nanos_since(rt, start)
+    (nanos_since(rt, start), sum)
 }
 
 /// A space with the pages of the objects.
@@ -58,10 +61,10 @@ pub fn time(rt: &HostRuntime) -> io::Result<()> {
     MV.init(&mut space);
     let _number = MV.create(&mut space);
     let appends = append_nanos(rt, &mut space, 4_096, &[7; 64]);
-    let oldest = read_nanos(rt, &mut space, 100, 1);
-    let middle = read_nanos(rt, &mut space, 100, 2_048);
-    let latest = read_nanos(rt, &mut space, 100, 4_096);
+    let (oldest, sum) = read_nanos(rt, &mut space, 100, 1);
+    let (middle, second) = read_nanos(rt, &mut space, 100, 2_048);
+    let (latest, third) = read_nanos(rt, &mut space, 100, 3_997);
     println!(rt;
-        "versions: 4,096 appends {appends} ns; 100 reads each of version 1 {oldest} ns, 2,048 {middle} ns, 4,096 {latest} ns"
+        "versions: 4,096 appends {appends} ns; 100 reads from version 1 on {oldest} ns, from 2,048 on {middle} ns, from 3,997 on {latest} ns; first bytes {sum}, {second}, {third}"
     )
 }
