@@ -6,6 +6,8 @@ mod check;
 #[cfg(test)]
 mod ends;
 #[cfg(test)]
+mod failures;
+#[cfg(test)]
 mod network;
 #[cfg(test)]
 mod replay;

@@ -7,7 +7,7 @@ use std::alloc::Global;
 use std::test::Fail;
 
 /// An Alloc of one page, of client 1 and process 1.
-const ALLOC: &[u8] =
+pub(crate) const ALLOC: &[u8] =
     b"CL\x01\x01\x00\x01\x00\x01\x00\x00\x00\x00\x00\x00\x00\x01\x00\x00\x00\x00\x00\x00\x00\x01\x00\x03\x00\x01\x03";
 
 /// Its reply: the page at 0x1000.

@@ -53,6 +53,8 @@ end 3
 pub(crate) enum Failing<'a> {
     Reads(&'a [u64]),
     Writes(&'a [u64]),
+    Receives(&'a [u64]),
+    Sends(&'a [u64]),
 }
 
 /// No call fails.
@@ -133,15 +135,15 @@ fn words_of(alloc: Global, words: &[&str]) -> Result<Words, NoMemory> {
 fn source(alloc: Global, input: &[u8], failing: Failing) -> Result<MemorySource, NoMemory> {
     let fails = match failing {
         Failing::Reads(fails) => Vec::from_slice(alloc, fails)?,
-        Failing::Writes(_) => Vec::new(alloc),
+        Failing::Writes(_) | Failing::Receives(_) | Failing::Sends(_) => Vec::new(alloc),
     };
     Ok(MemorySource::create(Vec::from_slice(alloc, input)?, fails))
 }
 
 fn sink(alloc: Global, failing: Failing) -> Result<MemorySink, NoMemory> {
     let fails = match failing {
-        Failing::Reads(_) => Vec::new(alloc),
         Failing::Writes(fails) => Vec::from_slice(alloc, fails)?,
+        Failing::Reads(_) | Failing::Receives(_) | Failing::Sends(_) => Vec::new(alloc),
     };
     Ok(MemorySink::create(alloc, fails))
 }
@@ -172,7 +174,12 @@ fn show(left: &Left) -> Kept {
     }
 }
 
-fn wire(alloc: Global, network: Network) -> Result<ScriptWire, NoMemory> {
+fn wire(alloc: Global, failing: Failing, network: Network) -> Result<ScriptWire, NoMemory> {
+    let (receives, sends) = match failing {
+        Failing::Receives(fails) => (Vec::from_slice(alloc, fails)?, Vec::new(alloc)),
+        Failing::Sends(fails) => (Vec::new(alloc), Vec::from_slice(alloc, fails)?),
+        Failing::Reads(_) | Failing::Writes(_) => (Vec::new(alloc), Vec::new(alloc)),
+    };
     let mut datagrams = Vec::new(alloc);
     for bytes in network.datagrams {
         let bytes = Vec::from_slice(alloc, bytes)?;
@@ -180,13 +187,7 @@ fn wire(alloc: Global, network: Network) -> Result<ScriptWire, NoMemory> {
             .push(Datagram { bytes, from: PEER })
             .map_err(|_| NoMemory)?;
     }
-    Ok(ScriptWire::create(
-        alloc,
-        network.bound,
-        datagrams,
-        Vec::new(alloc),
-        Vec::new(alloc),
-    ))
+    Ok(ScriptWire::create(alloc, network.bound, datagrams, receives, sends))
 }
 
 /// The status of a command, and what is shown of what it leaves. No other function owns that, since each that drops a world
@@ -216,7 +217,7 @@ pub(crate) fn run_over(
     let mut source = source(alloc, input, failing)?;
     let mut sink = sink(alloc, failing)?;
     let mut clock = ScriptClock::create(Vec::from_slice(alloc, network.moments)?);
-    let mut wire = wire(alloc, network)?;
+    let mut wire = wire(alloc, failing, network)?;
     let (status, left) = serve(alloc, &words, &mut source, &mut sink, &mut wire, &mut clock);
     Ok(Ran {
         status,
