@@ -1,7 +1,7 @@
 //! Tests of `node` and `client` over a wire and a clock in memory.
 
 use crate::runs::{Kept, NONE, Network, PEER, run_over};
-use cl_outside::{Bound, ScriptWire};
+use cl_outside::{Bound, Peer, ScriptWire};
 use cl_types::items::NoMemory;
 use std::alloc::Global;
 use std::test::Fail;
@@ -14,11 +14,24 @@ pub(crate) const ALLOC: &[u8] =
 const ALLOCATED: &[u8] =
     b"CL\x01\x81\x00\x01\x00\x01\x00\x00\x00\x00\x00\x00\x00\x01\x00\x00\x00\x00\x00\x00\x00\x01\x00\x05\x00\x00\x00\x10\x00";
 
+/// The node that a client is told.
+const NODE: Peer = Peer {
+    ip: 0x7f00_0001,
+    port: 7000,
+};
+
+/// Whether so many datagrams were sent, each to this peer.
+fn go_to(wire: &ScriptWire, peer: Peer, times: usize) -> bool {
+    wire.sent().len() == times && wire.sent().iter().all(|datagram| datagram.from == peer)
+}
+
 /// Whether this was sent to the peer, so many times, and nothing else was.
 fn is_sent(wire: &ScriptWire, bytes: &[u8], times: usize) -> bool {
-    wire.sent().len() == times
-        && wire.sent().iter().all(|datagram| datagram.bytes.as_slice() == bytes
-            && datagram.from == PEER)
+    go_to(wire, PEER, times)
+        && wire
+            .sent()
+            .iter()
+            .all(|datagram| datagram.bytes.as_slice() == bytes)
 }
 
 /// Whether a node answers a request that comes twice with the same reply, and lets junk between go by.
@@ -43,6 +56,31 @@ fn serves(alloc: Global) -> Result<bool, NoMemory> {
 #[test]
 fn a_repeated_request_gets_its_reply_again(rt: HostRuntime) -> Result<(), Fail> {
     assert!(rt; serves(rt.alloc())?);
+    Ok(())
+}
+
+/// Whether a node to which nothing comes ends after its idle turns.
+fn ends_idle(alloc: Global) -> Result<bool, NoMemory> {
+    let network = Network {
+        bound: Bound::Port(7000),
+        datagrams: &[],
+        moments: &[],
+    };
+    let words = ["node", "0", "16", "8", "4", "4", "3", "5"];
+    let ran = run_over(alloc, &words, b"", NONE, network)?;
+    let is_left = matches!(
+        ran.left,
+        Kept::Node {
+            pages: 0,
+            replies: 0
+        }
+    );
+    Ok(ran.is(0, b"port 7000\nidle 0\n") && is_left && go_to(&ran.wire, PEER, 0))
+}
+
+#[test]
+fn a_node_to_which_nothing_comes_ends_idle(rt: HostRuntime) -> Result<(), Fail> {
+    assert!(rt; ends_idle(rt.alloc())?);
     Ok(())
 }
 
@@ -89,7 +127,7 @@ fn ends(alloc: Global, alone: Alone) -> Result<bool, NoMemory> {
         Kept::Nothing => alone.status != 0,
         _ => false,
     };
-    Ok(ran.is(alone.status, alone.text) && is_left && ran.wire.sent().len() == alone.sent)
+    Ok(ran.is(alone.status, alone.text) && is_left && go_to(&ran.wire, NODE, alone.sent))
 }
 
 /// Whether each ends so.

@@ -71,10 +71,10 @@ pub(crate) struct Network<'a> {
     pub moments: &'a [u64],
 }
 
-/// The peer at the other end of a wire.
+/// The peer from which datagrams come. No command has its port.
 pub(crate) const PEER: Peer = Peer {
     ip: 0x7f00_0001,
-    port: 7000,
+    port: 9,
 };
 
 /// No bind works, and nothing comes.
