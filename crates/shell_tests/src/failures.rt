@@ -62,7 +62,7 @@ const NODE: &[Broken] = &[
     },
 ];
 
-/// A client of one call gets no reply, and sends at the times 0, 100, 200 and 300.
+/// A client of one call gets no reply. It sends at the times 0, 100, 200 and 300, and receives at 50.
 const CLIENT: &[Broken] = &[
     Broken {
         failing: Failing::Reads(&[1]),
@@ -146,7 +146,7 @@ fn client_off(alloc: Global) -> Result<Option<usize>, NoMemory> {
     let network = Network {
         bound: Bound::Port(7001),
         datagrams: &[],
-        moments: &[0, 100, 200, 300, 400],
+        moments: &[0, 50, 100, 200, 300, 400],
     };
     let words = ["client", "7000", "1", "1"];
     first_off(alloc, &words, b"alloc 1 rw\n", network, CLIENT)
