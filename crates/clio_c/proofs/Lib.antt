@@ -1,0 +1,2 @@
+mod IssueLemmas
+pub mod Values

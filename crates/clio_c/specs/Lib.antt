@@ -1,0 +1,5 @@
+pub mod Asking
+pub mod Creating
+pub mod Numbers
+pub mod Owned
+pub mod Turning
