@@ -246,19 +246,26 @@ class TestClient(WithNode):
         class Stop(Exception):
             pass
 
+        # A signal may be told late, after the write: then nothing is raised.
+        is_armed = False
+
         def stop(*_):
-            raise Stop
+            if is_armed:
+                raise Stop
 
         before = signal.signal(signal.SIGALRM, stop)
         self.addCleanup(signal.signal, signal.SIGALRM, before)
         stopped = 0
         for turn in range(1, 31):
             data = bytes([turn]) * 150_000
-            signal.setitimer(signal.ITIMER_REAL, turn / 5_000)
             try:
+                is_armed = True
+                signal.setitimer(signal.ITIMER_REAL, turn / 5_000)
                 r.write(0, data)
+                is_armed = False
             except Stop:
                 stopped += 1
+            is_armed = False
             signal.setitimer(signal.ITIMER_REAL, 0)
             word = r.word(155_648)
             self.assertEqual(word.fetch_add(), turn - 1)
