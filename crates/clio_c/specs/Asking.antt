@@ -11,22 +11,28 @@ use Rattle.clio_c.specs.Numbers.{number_told, op_named, perm_named, status_numbe
 use Rattle.clio_c.specs.declared.issuing.NotIssued.{NotIssued}
 use Rattle.clio_c.specs.declared.issuing.NotIssued.TheVariants as cause
 
--- ---- the calls of C's arguments; there is none where a number stands for nothing
+-- ---- the calls of C's arguments
+-- an Alloc, where the number is a permission's
 abbrev pub alloc_call : (pages perm : ℕ) → Option Call
 alloc_call pages perm = option_map (call.Alloc pages) (perm_named perm)
 
+-- a Free
 abbrev pub free_call : (addr pages : ℕ) → Call
 free_call addr pages = call.Free (record { 0 = addr }) pages
 
+-- a Read, its buffer of zeros
 abbrev pub read_call : (addr len : ℕ) → Call
 read_call addr len = call.Read (record { 0 = addr }) (zeros len)
 
+-- a Write of the bytes
 abbrev pub write_call : (addr : ℕ) → List ℕ → Call
 write_call addr bytes = call.Write (record { 0 = addr }) bytes
 
+-- an Atomic, where the number is an operation's
 abbrev pub atomic_call : (addr op a b : ℕ) → Option Call
 atomic_call addr op a b = option_map (call.Atomic (record { 0 = addr })) (op_named op a b)
 
+-- an Offload of the bytes, its buffer of zeros
 abbrev pub offload_call : (object op : ℕ) → List ℕ → (room : ℕ) → Call
 offload_call object op bytes room = call.Offload object op bytes (zeros room)
 
