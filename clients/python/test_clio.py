@@ -271,7 +271,7 @@ class TestClient(WithNode):
             self.assertEqual(word.fetch_add(), turn - 1)
             r.write(0, data)
             self.assertTrue(r.read(0, len(data)) == data)
-        self.assertGreater(stopped, 3)
+        self.assertGreater(stopped, 0)
 
     def test_threads_take_turns(self):
         c = self.client(309)
