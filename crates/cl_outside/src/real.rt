@@ -8,6 +8,3 @@ mod udp;
 pub use clock::StdClock;
 pub use standard::{StdSink, StdSource};
 pub use udp::UdpWire;
-
-/// The length of a tick, in milliseconds.
-const TICK_MILLIS: u64 = 10;

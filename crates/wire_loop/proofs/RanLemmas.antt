@@ -71,18 +71,19 @@ module _ (frames idles : ℕ) where
         → Ran frames idles old then before after (served_by how served) (idles_by how idle) (fails how)
     ran_more few short r t = record {
       receives = r.receives ++ t.received ∷ [];
-      sendings = r.sendings ++ t.sendings;
-      sent = r.sent ++ t.sent;
+      sendings = r.sendings ++ t.turns.sendings;
+      sent = r.sent ++ t.turns.sent;
       gave = gave_more r.receives t.received before.coming between.coming after.coming r.gave t.gave;
-      messages = subst (λ ms. Added ms before.sent after.sent) (sym (map-append message_of r.sent t.sent))
-          (added_both (map message_of r.sent) (map message_of t.sent) before.sent between.sent after.sent r.messages t.messages);
+      messages = subst (λ ms. Added ms before.sent after.sent) (sym (map-append message_of r.sent t.turns.sent))
+          (added_both (map message_of r.sent) (map message_of t.turns.sent) before.sent between.sent after.sent r.messages
+          t.turns.messages);
       holds = λ clock is.
-          let last = t.holds clock is in
+          let last = t.turns.holds clock is in
           let first = r.holds last.0 last.1 in (
             first.0,
             first.1,
             λ more rest finish turned. one clock last.0 first.0 more rest finish
-                (first.2 (t.sendings ++ more) (t.received ∷ rest) finish) (last.2 more r.sent served idle) turned,
+                (first.2 (t.turns.sendings ++ more) (t.received ∷ rest) finish) (last.2 more r.sent served idle) turned,
           );
     } where
       start : ClockAnswers → List Bool → Serving Peer
@@ -92,25 +93,25 @@ module _ (frames idles : ℕ) where
       middle clock more = serving now.node now.last clock more r.sent served idle false
 
       end : ClockAnswers → List Bool → Serving Peer
-      end clock more = serving then.node then.last clock more (r.sent ++ t.sent) (served_by how served) (idles_by how idle)
+      end clock more = serving then.node then.last clock more (r.sent ++ t.turns.sent) (served_by how served) (idles_by how idle)
           (fails how)
 
       goes_on : (clock : ClockAnswers) (more : List Bool) → is_over frames idles (middle clock more) ≡ false
       goes_on clock more = rw (lt-leb frames served few, lt-leb idles idle short) refl
 
       one : (clock between first : ClockAnswers) (more : List Bool) (rest : List (Received Peer)) (finish : Serving Peer)
-          → (Turned latest frames idles (middle between (t.sendings ++ more)) (t.received ∷ rest) finish
-          → Turned latest frames idles (start first (r.sendings ++ (t.sendings ++ more))) (r.receives ++ t.received ∷ rest) finish)
-          → turn latest (middle between (t.sendings ++ more)) t.received ≡ end clock more
+          → (Turned latest frames idles (middle between (t.turns.sendings ++ more)) (t.received ∷ rest) finish
+          → Turned latest frames idles (start first (r.sendings ++ (t.turns.sendings ++ more))) (r.receives ++ t.received ∷ rest) finish)
+          → turn latest (middle between (t.turns.sendings ++ more)) t.received ≡ end clock more
           → Turned latest frames idles (end clock more) rest finish
-          → Turned latest frames idles (start first ((r.sendings ++ t.sendings) ++ more))
+          → Turned latest frames idles (start first ((r.sendings ++ t.turns.sendings) ++ more))
           ((r.receives ++ t.received ∷ []) ++ rest) finish
       one clock between first more rest finish so same later =
-          subst (λ rs. Turned latest frames idles (start first ((r.sendings ++ t.sendings) ++ more)) rs finish)
+          subst (λ rs. Turned latest frames idles (start first ((r.sendings ++ t.turns.sendings) ++ more)) rs finish)
           (sym (appended r.receives t.received rest))
           (subst (λ ss. Turned latest frames idles (start first ss) (r.receives ++ t.received ∷ rest) finish)
-          (sym (append_assoc r.sendings t.sendings more))
-          (so (goes_on between (t.sendings ++ more), subst (λ s. Turned latest frames idles s rest finish) (sym same) later)))
+          (sym (append_assoc r.sendings t.turns.sendings more))
+          (so (goes_on between (t.turns.sendings ++ more), subst (λ s. Turned latest frames idles s rest finish) (sym same) later)))
 
   -- ---- the end
   told_clock : (moments : Option Moments) → (clock : ClockAnswers) × IsTold clock moments

@@ -12,4 +12,4 @@ pub mod laws;
 mod serving;
 
 pub use driving::{DriveEnd, drive};
-pub use serving::{ServeEnd, serve};
+pub use serving::{ServeEnd, TurnEnd, serve, serve_datagram};

@@ -2,8 +2,9 @@
 
 ghost use Rattle.std.specs.Prelude.{◌≡◌, ◌≤◌, length};
 ghost use Rattle.cl_types.specs.declared.limits.TheConstants.{FRAME_ROOM};
+ghost use Rattle.wire_loop.specs.Outside.{Datagram};
 ghost use Rattle.wire_loop.specs.Serves.{CountsServe, Serves, incoming, told_of};
-ghost use Rattle.wire_loop.specs.Turns.{Answers, CountsTurn, IsAfterDatagram, Turns};
+ghost use Rattle.wire_loop.specs.Turns.{Answers, CountsTurn, IsTurnEnd, Turns, TurnsOn};
 
 use cl_outside::{Clock, Peer, Recv, Sent, Wire};
 use cl_types::limits::FRAME_ROOM;
@@ -23,11 +24,13 @@ pub enum ServeEnd {
 /// How a turn ended.
 #[derive(Clone, Copy, Debug, PartialEq, Eq)]
 pub enum TurnEnd {
-    /// A datagram was served.
-    Served,
+    /// A datagram was given to the node, this came of it, and a reply, where there is one, was sent.
+    Served(Outcome),
+    /// A datagram was given to the node, this came of it, and the send of its reply failed.
+    Unsent(Outcome),
     /// Nothing came.
     Idle,
-    /// The wire failed.
+    /// The receive failed.
     Failed,
 }
 
@@ -44,28 +47,51 @@ fn answer<W: Wire>(
     requires room { length out.old ≡ FRAME_ROOM }
     ensures answers { Answers node.old.node node.new.node (W.sent wire.old) (W.sent wire.new)
         from now bytes.now result }
-    ensures came { IsAfterDatagram result }
+    ensures came { IsTurnEnd node.old.node now (Datagram bytes.now from) result }
     ensures last { node.new.last ≡ now }
     ensures coming { incoming (W.coming wire.new) (W.idles wire.new) ≡ incoming (W.coming wire.old) (W.idles wire.old) }
     ensures counts { CountsTurn (W.faults wire.old) (W.faults wire.new) result }
     ensures bind { W.last_bind wire.new ≡ W.last_bind wire.old }
     ensures size { length out.new ≡ FRAME_ROOM }
 {
-    match node.handle(now, bytes, out) {
+    let outcome = node.handle(now, bytes, out);
+    match outcome {
         Outcome::Replied {
             len,
             how: _,
             status: _,
         } => match wire.send(from, &out[..len]) {
-            Sent::Sent => TurnEnd::Served,
-            Sent::Failed => TurnEnd::Failed,
+            Sent::Sent => TurnEnd::Served(outcome),
+            Sent::Failed => TurnEnd::Unsent(outcome),
         },
-        Outcome::Busy { oldest: _, now: _ } => TurnEnd::Served,
-        Outcome::Bad(_fault) => TurnEnd::Served,
+        Outcome::Busy { oldest: _, now: _ } => TurnEnd::Served(outcome),
+        Outcome::Bad(_fault) => TurnEnd::Served(outcome),
     }
 }
 
-/// Receives once, and serves what came.
+/// Gives a datagram from this peer to the node at the clock's moment, and sends its reply back. `out` has
+/// `FRAME_ROOM` bytes. It takes no memory.
+pub fn serve_datagram<W: Wire, C: Clock>(
+    node: &mut Node,
+    wire: &mut W,
+    clock: &mut C,
+    from: Peer,
+    bytes: &[u8],
+    out: &mut [u8],
+) -> TurnEnd
+    requires room { length out.old ≡ FRAME_ROOM }
+    ensures turns { TurnsOn (Datagram bytes.now from) node.old node.new (W.sent wire.old) (W.sent wire.new)
+        (C.moments clock.old) (C.moments clock.new) result }
+    ensures coming { incoming (W.coming wire.new) (W.idles wire.new) ≡ incoming (W.coming wire.old) (W.idles wire.old) }
+    ensures counts { CountsTurn (W.faults wire.old) (W.faults wire.new) result }
+    ensures bind { W.last_bind wire.new ≡ W.last_bind wire.old }
+    ensures size { length out.new ≡ FRAME_ROOM }
+{
+    let now = clock.now().max(node.last());
+    answer(node, wire, now, from, bytes, out)
+}
+
+/// Receives once, and serves what came. It takes no memory.
 fn turn<W: Wire, C: Clock>(
     node: &mut Node,
     wire: &mut W,
@@ -85,10 +111,7 @@ fn turn<W: Wire, C: Clock>(
     ensures out_size { length out.new ≡ FRAME_ROOM }
 {
     match wire.recv(frame) {
-        Recv::Got { len, from } => {
-            let now = clock.now().max(node.last());
-            answer(node, wire, now, from, &frame[..len], out)
-        }
+        Recv::Got { len, from } => serve_datagram(node, wire, clock, from, &frame[..len], out),
         Recv::Idle => TurnEnd::Idle,
         Recv::Failed => TurnEnd::Failed,
     }
@@ -119,11 +142,12 @@ pub fn serve<W: Wire, C: Clock>(
     let mut idle = 0;
     while served < frames && idle < idles {
         match turn(node, wire, clock, &mut frame, &mut out) {
-            TurnEnd::Served => {
+            TurnEnd::Served(_outcome) => {
                 served += 1;
                 idle = 0;
             }
             TurnEnd::Idle => idle += 1,
+            TurnEnd::Unsent(_outcome) => return ServeEnd::WireFault { frames: served },
             TurnEnd::Failed => return ServeEnd::WireFault { frames: served },
         }
     }

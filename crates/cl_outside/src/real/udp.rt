@@ -1,21 +1,24 @@
-//! `UdpWire`: datagrams of UDP on 127.0.0.1.
+//! `UdpWire`: datagrams of UDP over IPv4.
 
 ghost use Rattle.std.specs.Prelude.{◌≡◌, ◌≤◌, None, IfOk, length};
 ghost use Rattle.cl_outside.specs.Counts.{no_faults};
 
 use crate::faults::Faults;
-use crate::real::TICK_MILLIS;
 use crate::{Bound, Peer, Recv, Sent, Wire};
 use std::io;
 use std::io::ErrorKind;
 use std::net::{Ipv4Addr, Net, SocketAddr, SocketAddrV4, UdpSocket};
 use std::time::Duration;
 
-/// A socket on 127.0.0.1. A receive waits one tick, 10 milliseconds, before it is idle. Each error
+// How long a receive waits before it is idle.
+const WAIT_MILLIS: u64 = 10;
+
+/// A socket at an address of this machine. A receive waits 10 milliseconds before it is idle. Each error
 /// of the system is a fault, and so is a receive or a send with no port.
 #[derive(Drop)]
 pub struct UdpWire<N> {
     net: N,
+    address: Ipv4Addr,
     // `None` where the wire has no port.
     socket: Option<UdpSocket>,
     faults: Faults,
@@ -23,13 +26,23 @@ pub struct UdpWire<N> {
 }
 
 impl<N: Net> UdpWire<N> {
-    /// A wire with no port, over this network, as `&rt`.
+    /// A wire with no port on 127.0.0.1, over this network, as `&rt`.
     pub fn create(net: N) -> Self
+        ensures faults { result.faults ≡ no_faults }
+        ensures idles { result.idles ≡ 0 }
+    {
+        UdpWire::create_at(net, Ipv4Addr::LOCALHOST)
+    }
+
+    /// A wire with no port at this address of the machine, or at all of them where it is 0.0.0.0, over this
+    /// network, as `&rt`.
+    pub fn create_at(net: N, address: Ipv4Addr) -> Self
         ensures faults { result.faults ≡ no_faults }
         ensures idles { result.idles ≡ 0 }
     {
         UdpWire {
             net,
+            address,
             socket: None,
             faults: Faults::none(),
             idles: 0,
@@ -38,9 +51,9 @@ impl<N: Net> UdpWire<N> {
 
     // A socket at this port, and the port that it got.
     fn open(&self, port: u16) -> io::Result<(UdpSocket, u16)> {
-        let address = SocketAddr::V4(SocketAddrV4::new(Ipv4Addr::LOCALHOST, port));
+        let address = SocketAddr::V4(SocketAddrV4::new(self.address, port));
         let socket = UdpSocket::bind(&self.net, address)?;
-        socket.set_read_timeout(Some(Duration::from_millis(TICK_MILLIS)))?;
+        socket.set_read_timeout(Some(Duration::from_millis(WAIT_MILLIS)))?;
         let port = socket.local_addr()?.port();
         Ok((socket, port))
     }

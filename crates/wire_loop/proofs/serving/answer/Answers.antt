@@ -10,28 +10,28 @@ use Rattle.wire_loop.proofs.serving.answer.Goals as goal
 pub slice_bounds-send-end : goal.slice_bounds-send-end
 slice_bounds-send-end g c =
     let short : c.in-Replied.len ≤ REPLY_BYTES = reply_is_short c.args.node.now.node c.args.now c.args.bytes.now
-    c.in-Replied.len c.in-Replied.how c.in-Replied.status c.handle.new.out c.in-Replied.ensures.answer in
-    let room : length c.handle.new.out ≡ FRAME_ROOM = search rules in
+    c.in-Replied.len c.in-Replied.how c.in-Replied.status c.handle-outcome.new.out c.in-Replied.ensures.answer in
+    let room : length c.handle-outcome.new.out ≡ FRAME_ROOM = search rules in
     omega (arith, short, room)
 
 pub slice_bounds-send-end-in-Replied : goal.slice_bounds-send-end-in-Replied
 slice_bounds-send-end-in-Replied g c =
     let short : c.in-Replied.len ≤ REPLY_BYTES = reply_is_short c.args.node.now.node c.args.now c.args.bytes.now
-    c.in-Replied.len c.in-Replied.how c.in-Replied.status c.handle.new.out c.in-Replied.ensures.answer in
-    let room : length c.handle.new.out ≡ FRAME_ROOM = search rules in
-    let within : c.in-Replied.len ≤ length c.handle.new.out = omega (arith, short, room) in
-    sym (length-take-le c.in-Replied.len c.handle.new.out within)
+    c.in-Replied.len c.in-Replied.how c.in-Replied.status c.handle-outcome.new.out c.in-Replied.ensures.answer in
+    let room : length c.handle-outcome.new.out ≡ FRAME_ROOM = search rules in
+    let within : c.in-Replied.len ≤ length c.handle-outcome.new.out = omega (arith, short, room) in
+    sym (length-take-le c.in-Replied.len c.handle-outcome.new.out within)
 
 pub returns-in-Sent-clause-answers : goal.returns-in-Sent-clause-answers
 returns-in-Sent-clause-answers g c =
-    let sent = take c.in-Replied.len c.handle.new.out in record {
+    let sent = take c.in-Replied.len c.handle-outcome.new.out in record {
       sendings = true ∷ [];
       sent = (c.args.from, sent) ∷ [];
       messages = c.in-Sent.ensures.sent;
       holds = λ clock more others served idles.
           answers_sent c.args.from c.args.now clock more others served idles c.in-Replied.len c.in-Replied.how
-          c.in-Replied.status c.handle.new.out c.args.node.now.node c.args.bytes.now c.in-Replied.ensures.answer
-          ∙ (λ j. serving (sym c.handle.ensures.node j).node c.args.now clock more
+          c.in-Replied.status c.handle-outcome.new.out c.args.node.now.node c.args.bytes.now c.in-Replied.ensures.answer
+          ∙ (λ j. serving (sym c.handle-outcome.ensures.node j).node c.args.now clock more
           (others ++ (c.args.from, sent) ∷ []) served idles false);
     }
 
@@ -42,8 +42,8 @@ returns-in-Failed-clause-answers g c = record {
   messages = added_same _ _ c.in-Failed.ensures.sent;
   holds = λ clock more others served idles.
       answers_failed c.args.from c.args.now clock more others served idles c.in-Replied.len c.in-Replied.how
-      c.in-Replied.status c.handle.new.out c.args.node.now.node c.args.bytes.now c.in-Replied.ensures.answer
-      ∙ (λ j. serving (sym c.handle.ensures.node j).node c.args.now clock more (others ++ []) served idles true);
+      c.in-Replied.status c.handle-outcome.new.out c.args.node.now.node c.args.bytes.now c.in-Replied.ensures.answer
+      ∙ (λ j. serving (sym c.handle-outcome.ensures.node j).node c.args.now clock more (others ++ []) served idles true);
 }
 
 pub returns-in-Busy-clause-answers : goal.returns-in-Busy-clause-answers
@@ -53,8 +53,8 @@ returns-in-Busy-clause-answers g c = record {
   messages = added_none _;
   holds = λ clock more others served idles.
       answers_busy c.args.from c.args.now clock more others served idles c.args.node.now.node c.args.bytes.now
-      c.handle.new.out _ _ c.in-Busy.ensures.answer
-      ∙ (λ j. serving (sym c.handle.ensures.node j).node c.args.now clock more (others ++ []) served idles false);
+      c.handle-outcome.new.out _ _ c.in-Busy.ensures.answer
+      ∙ (λ j. serving (sym c.handle-outcome.ensures.node j).node c.args.now clock more (others ++ []) served idles false);
 }
 
 pub returns-in-Bad-clause-answers : goal.returns-in-Bad-clause-answers
@@ -64,8 +64,8 @@ returns-in-Bad-clause-answers g c = record {
   messages = added_none _;
   holds = λ clock more others served idles.
       answers_bad c.args.from c.args.now clock more others served idles c.args.node.now.node c.args.bytes.now
-      c.handle.new.out _ c.in-Bad.ensures.answer
-      ∙ (λ j. serving (sym c.handle.ensures.node j).node c.args.now clock more (others ++ []) served idles false);
+      c.handle-outcome.new.out _ c.in-Bad.ensures.answer
+      ∙ (λ j. serving (sym c.handle-outcome.ensures.node j).node c.args.now clock more (others ++ []) served idles false);
 }
 
 pub returns-in-Sent-clause-coming : goal.returns-in-Sent-clause-coming
@@ -73,3 +73,15 @@ returns-in-Sent-clause-coming g c = incoming_same c.send.ensures.coming c.send.e
 
 pub returns-in-Failed-clause-coming : goal.returns-in-Failed-clause-coming
 returns-in-Failed-clause-coming g c = incoming_same c.send.ensures.coming c.send.ensures.idles
+
+pub returns-in-Sent-clause-came : goal.returns-in-Sent-clause-came
+returns-in-Sent-clause-came g c = (c.handle-outcome.new.out, c.in-Replied.ensures.answer)
+
+pub returns-in-Failed-clause-came : goal.returns-in-Failed-clause-came
+returns-in-Failed-clause-came g c = (c.handle-outcome.new.out, c.in-Replied.ensures.answer)
+
+pub returns-in-Busy-clause-came : goal.returns-in-Busy-clause-came
+returns-in-Busy-clause-came g c = (c.handle-outcome.new.out, c.handle-outcome.ensures.answer)
+
+pub returns-in-Bad-clause-came : goal.returns-in-Bad-clause-came
+returns-in-Bad-clause-came g c = (c.handle-outcome.new.out, c.in-Bad.ensures.answer)

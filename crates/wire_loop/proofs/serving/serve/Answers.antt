@@ -17,7 +17,7 @@ loop-served-init g c = record {
 pub loop-served-preserved-in-Served : goal.loop-served-preserved-in-Served
 loop-served-preserved-in-Served g c = record {
   ran = ran_more c.args.frames c.args.idles c.args.node.now c.loop-served.node c.turn.new.node _ _ _ c.loop-served.served
-      c.loop-served.idle turn_end.Served
+      c.loop-served.idle (turn_end.Served c.in-Served._outcome)
       (search rules) (search rules) c.loop-served.invariant.ran c.in-Served.ensures.turns;
   counts = c.in-Served.ensures.counts ∙ c.loop-served.invariant.counts;
   bind = c.in-Served.ensures.bind ∙ c.loop-served.invariant.bind;
@@ -41,6 +41,14 @@ returns-in-Failed-clause-serves g c =
     let r = ran_more c.args.frames c.args.idles c.args.node.now c.loop-served.node c.turn.new.node _ _ _ c.loop-served.served
     c.loop-served.idle turn_end.Failed
     (search rules) (search rules) c.loop-served.invariant.ran c.in-Failed.ensures.turns in
+    ran_to_end c.args.frames c.args.idles c.args.node.now c.turn.new.node _ _ c.loop-served.served
+    c.loop-served.idle true _ r refl (λ clock sent. refl)
+
+pub returns-in-Unsent-clause-serves : goal.returns-in-Unsent-clause-serves
+returns-in-Unsent-clause-serves g c =
+    let r = ran_more c.args.frames c.args.idles c.args.node.now c.loop-served.node c.turn.new.node _ _ _ c.loop-served.served
+    c.loop-served.idle (turn_end.Unsent c.in-Unsent._outcome)
+    (search rules) (search rules) c.loop-served.invariant.ran c.in-Unsent.ensures.turns in
     ran_to_end c.args.frames c.args.idles c.args.node.now c.turn.new.node _ _ c.loop-served.served
     c.loop-served.idle true _ r refl (λ clock sent. refl)
 
