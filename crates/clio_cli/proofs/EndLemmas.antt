@@ -1,5 +1,5 @@
 -- What the ends of a served node and of a driven client say of failures.
-use Rattle.std.proofs.Common.{◌≡◌, ◌⊎◌, inl, inr, ℕ, Option, Some, None, refl, sym, ap, subst, ◌∙◌, arith}
+use Rattle.std.proofs.Common.{◌≡◌, ◌⊎◌, inl, inr, Some, None, refl, ap, arith}
 use Rattle.cl_outside.specs.Counts.{LastFailed, NoneFailed}
 use Rattle.cl_outside.specs.declared.faults.Faults.{Faults}
 use Rattle.cl_types.specs.declared.open_fault.OpenFault.{OpenFault}
@@ -7,7 +7,7 @@ use Rattle.client_command.specs.Ends.{ClientEnds, CountsStop, CutIn, FaultLine, 
 use Rattle.client_command.specs.declared.ends.ClientEnd.{ClientEnd}
 use Rattle.client_command.specs.declared.ends.ClientEnd.TheVariants as client_end
 use Rattle.flat_model.specs.Opening.{open_fault}
-use Rattle.node_command.specs.Ends.{BindFailed, EndsWhole, IsEndAt, NodeEnds, NodeNumbers, NodeRefused, PortBound, Reaches, ServingEnded, Stage, end_by}
+use Rattle.node_command.specs.Ends.{BindFailed, IsEndAt, NodeEnds, NodeNumbers, NodeRefused, PortBound, Reaches, ServingEnded, Stage, end_by}
 use Rattle.node_command.specs.declared.node_end.NodeEnd.{NodeEnd}
 use Rattle.node_command.specs.declared.node_end.NodeEnd.TheVariants as node_end
 use Rattle.node_core.specs.Keeping.{KeptNode}
@@ -17,9 +17,9 @@ use Rattle.wire_loop.specs.Wired.{Wired}
 use Rattle.wire_loop.specs.declared.serving.ServeEnd.{ServeEnd}
 use Rattle.wire_loop.specs.declared.serving.ServeEnd.TheVariants as serve_end
 use Rattle.clio_cli.specs.Run.{client_status, node_status}
-use Rattle.clio_cli.specs.declared.status.Status.{Status}
-use Rattle.clio_cli.specs.declared.status.Status.TheVariants as status
-use Rattle.clio_cli.proofs.OutputLemmas.{differs, none_some}
+use Rattle.command_text.specs.declared.status.Status.{Status}
+use Rattle.command_text.specs.declared.status.Status.TheVariants as status
+use Rattle.command_text.proofs.OutputLemmas.{differs}
 
 -- a count of failures that stands
 stands : (before after : Faults) → after ≡ before → NoneFailed before after

@@ -1,12 +1,5 @@
 pub mod WordLemmas
-pub mod StepLemmas
-pub mod SuitedLemmas
-pub mod GatherLemmas
-pub mod ReplayLemmas
-pub mod OutputLemmas
-pub mod JudgeLemmas
 pub mod EndLemmas
 pub mod RunLemmas
-pub mod HeadlineLemmas
+pub mod RunsLemmas
 pub mod ServeLemmas
-pub mod StormLemmas

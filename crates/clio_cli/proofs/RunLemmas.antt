@@ -1,8 +1,7 @@
 -- From how the program ends to when each status comes.
-use Rattle.std.proofs.Common.{◌≡◌, ◌⊎◌, inl, inr, ℕ, ◌+◌, Bool, true, false, List, ◌++◌, length, Option, Some, None, refl, sym, ap, subst, ◌∙◌, arith}
+use Rattle.std.proofs.Common.{◌≡◌, ◌⊎◌, inl, inr, ℕ, true, false, List, length, Option, Some, None, refl, sym, ap, subst, ◌∙◌, arith}
 use Rattle.std.specs.Prelude.{◌==◌, IfSome, IsTrue, if◌then◌else◌}
 use Rattle.cl_outside.specs.Counts.{LastFailed, NoneFailed}
-use Rattle.cl_outside.specs.Told.{Added}
 use Rattle.cl_outside.specs.declared.faults.Faults.{Faults}
 use Rattle.cl_types.specs.declared.config.NodeConfig.{NodeConfig}
 use Rattle.cl_types.specs.declared.numbers.ClientNo.{ClientNo}
@@ -24,14 +23,17 @@ use Rattle.schedule_text.specs.Reading.{too_long_of}
 use Rattle.texts.specs.Commands.{Command, Replay, Check, Storm, Serve, Drive}
 use Rattle.texts.specs.Grammar.{schedule_of, script_of}
 use Rattle.transcript_text.specs.HistoryGrammar.{history_of}
-use Rattle.clio_cli.specs.Outputs.{AnswersCheck, AnswersReplay, AsksTranscript, AsksVerdict, Calls, HasBadEntry, HasBadNode, History, IsCheckable, IsRefused, IsReplayable, IsScript, RefusesScript, bad_words, history_fault, no_fault, schedule_fault, storm_output, verdict_output}
-use Rattle.clio_cli.specs.Run.{Asks, CompleteOf, Ends, EndsIn, EndsInText, Exactly, ExactlyClosed, FaultsEndTheRun, HasBadInput, HasClosedNode, HasLongInput, HasNoRun, HasStalled, InText, IsCutShort, LetsNetworkBe, Network, NoFault, OnNode, OnScript, Outside, Streams, TookScript, Writes, client_status, node_status, wired_of}
-use Rattle.clio_cli.specs.Status.{number_of}
-use Rattle.clio_cli.specs.declared.judge.Output.{Output}
-use Rattle.clio_cli.specs.declared.status.Status.{Status}
-use Rattle.clio_cli.specs.declared.status.Status.TheVariants as status
+use Rattle.command_text.specs.Outputs.{AnswersCheck, AnswersReplay, AsksTranscript, AsksVerdict, Calls, HasBadEntry, HasBadNode, History, IsCheckable, IsRefused, IsScript, RefusesScript, bad_words, history_fault, no_fault, schedule_fault, storm_output, verdict_output}
+use Rattle.command_text.specs.TextEnds.{Asks, EndsInText}
+use Rattle.clio_cli.specs.Run.{CompleteOf, Ends, EndsIn, Exactly, ExactlyClosed, FaultsEndTheRun, HasBadInput, HasClosedNode, HasLongInput, HasNoRun, HasStalled, InText, IsCutShort, LetsNetworkBe, Network, NoFault, OnNode, OnScript, Outside, TookScript, Writes, client_status, node_status, wired_of}
+use Rattle.command_text.specs.Streams.{Streams}
+use Rattle.command_text.specs.Status.{number_of}
+use Rattle.command_text.specs.declared.output.Output.{Output}
+use Rattle.command_text.specs.declared.status.Status.{Status}
+use Rattle.command_text.specs.declared.status.Status.TheVariants as status
 use Rattle.clio_cli.proofs.EndLemmas.{OfClient, OfNode, client_no_wire, client_no_write, client_wire, client_write, node_no_wire, node_no_write, node_wire, node_write, of_client, of_node, refused_node, served_opens}
-use Rattle.clio_cli.proofs.OutputLemmas.{IsAnswer, IsFinal, answers_words, closed_status, differs, gave_answers, is_asked, is_closed, is_long, is_refused, long_status, none_some, ok_err, refused_status, status_is, value_asked}
+use Rattle.command_text.proofs.OutputLemmas.{IsAnswer, IsFinal, answers_words, closed_status, differs, gave_answers, is_asked, is_closed, is_long, is_refused, long_status, none_some, ok_err, refused_status, status_is, value_asked, transcript_answer, history_answer}
+use Rattle.command_text.proofs.TextEndLemmas.{Wrote, ends_wrote, calm_end, no_read_failed, no_write_failed, read_failed, write_failed}
 
 -- ---- numbers of statuses
 abbrev status_at : ℕ → Status
@@ -63,99 +65,6 @@ round status.BadNode = refl
 
 pub one_status : (st other : Status) → number_of st ≡ number_of other → st ≡ other
 one_status st other same = sym (round st) ∙ ap status_at same ∙ round other
-
--- ---- how a command ends that asks for an output
-module _ (command : Option Command) (before after : Streams) where
-  -- an output was written, whole
-  pub record Wrote (st : Status) : Type 0 where
-    pub reads : NoneFailed before.read_faults after.read_faults
-    pub writes : NoneFailed before.write_faults after.write_faults
-    pub output : Output
-    pub asks : Asks command before.left after.left output
-    pub status : output.status ≡ st
-    pub added : Added output.text before.written after.written
-
-  -- an output that was written is an end
-  pub wrote_ends : (st : Status) → IsFinal st → Wrote st → EndsInText command before after st
-  wrote_ends status.Ok final w = (w.reads, w.writes, w.output, w.asks, w.status, w.added)
-  wrote_ends status.BadWords final w = (w.reads, w.writes, w.output, w.asks, w.status, w.added)
-  wrote_ends status.BadInput final w = (w.reads, w.writes, w.output, w.asks, w.status, w.added)
-  wrote_ends status.NotRun final w = (w.reads, w.writes, w.output, w.asks, w.status, w.added)
-  wrote_ends status.TooLong final w = (w.reads, w.writes, w.output, w.asks, w.status, w.added)
-  wrote_ends status.BadNode final w = (w.reads, w.writes, w.output, w.asks, w.status, w.added)
-  wrote_ends status.ReadFault final w = absurd final
-  wrote_ends status.WriteFault final w = absurd final
-  wrote_ends status.NoMemory final w = absurd final
-  wrote_ends status.WireFault final w = absurd final
-  wrote_ends status.Stalled final w = absurd final
-
-  abbrev End : Status → Type 0
-  End st = NoneFailed before.read_faults after.read_faults × NoneFailed before.write_faults after.write_faults
-      × (output : Output) × Asks command before.left after.left output × (output.status ≡ st) × Added output.text before.written after.written
-
-  wrote : (st : Status) → End st → Wrote st
-  wrote st (reads, writes, output, asks, is, added) = record { reads = reads; writes = writes; output = output; asks = asks; status = is; added = added }
-
-  pub ends_wrote : (st : Status) → IsFinal st → EndsInText command before after st → Wrote st
-  ends_wrote status.Ok final end = wrote status.Ok end
-  ends_wrote status.BadWords final end = wrote status.BadWords end
-  ends_wrote status.BadInput final end = wrote status.BadInput end
-  ends_wrote status.NotRun final end = wrote status.NotRun end
-  ends_wrote status.TooLong final end = wrote status.TooLong end
-  ends_wrote status.BadNode final end = wrote status.BadNode end
-  ends_wrote status.ReadFault final end = absurd final
-  ends_wrote status.WriteFault final end = absurd final
-  ends_wrote status.NoMemory final end = absurd final
-  ends_wrote status.WireFault final end = absurd final
-  ends_wrote status.Stalled final end = absurd final
-
-  -- without a fault an output was written, or there was no memory
-  pub calm_end : (st : Status) → (LastFailed before.read_faults after.read_faults → ⊥) → (LastFailed before.write_faults after.write_faults → ⊥)
-      → EndsInText command before after st → Wrote st ⊎ (st ≡ status.NoMemory)
-  calm_end status.ReadFault read write end = absurd (read end.1)
-  calm_end status.WriteFault read write end = absurd (write end.0)
-  calm_end status.NoMemory read write end = inr refl
-  calm_end status.WireFault read write end = absurd end
-  calm_end status.Stalled read write end = absurd end
-  calm_end status.Ok read write end = inl (wrote status.Ok end)
-  calm_end status.BadWords read write end = inl (wrote status.BadWords end)
-  calm_end status.BadInput read write end = inl (wrote status.BadInput end)
-  calm_end status.NotRun read write end = inl (wrote status.NotRun end)
-  calm_end status.TooLong read write end = inl (wrote status.TooLong end)
-  calm_end status.BadNode read write end = inl (wrote status.BadNode end)
-
-  -- the first failure ends the run
-  no_read_failed : (st : Status) → (st ≡ status.ReadFault → ⊥) → EndsInText command before after st → NoneFailed before.read_faults after.read_faults
-  no_read_failed status.ReadFault other end = absurd (other refl)
-  no_read_failed status.WriteFault other end = end.1
-  no_read_failed status.NoMemory other end = end.0
-  no_read_failed status.WireFault other end = absurd end
-  no_read_failed status.Stalled other end = absurd end
-  no_read_failed status.Ok other end = end.0
-  no_read_failed status.BadWords other end = end.0
-  no_read_failed status.BadInput other end = end.0
-  no_read_failed status.NotRun other end = end.0
-  no_read_failed status.TooLong other end = end.0
-  no_read_failed status.BadNode other end = end.0
-
-  no_write_failed : (st : Status) → (st ≡ status.WriteFault → ⊥) → EndsInText command before after st → NoneFailed before.write_faults after.write_faults
-  no_write_failed status.ReadFault other end = end.3
-  no_write_failed status.WriteFault other end = absurd (other refl)
-  no_write_failed status.NoMemory other end = end.1
-  no_write_failed status.WireFault other end = absurd end
-  no_write_failed status.Stalled other end = absurd end
-  no_write_failed status.Ok other end = end.1
-  no_write_failed status.BadWords other end = end.1
-  no_write_failed status.BadInput other end = end.1
-  no_write_failed status.NotRun other end = end.1
-  no_write_failed status.TooLong other end = end.1
-  no_write_failed status.BadNode other end = end.1
-
-  read_failed : (st : Status) → st ≡ status.ReadFault → EndsInText command before after st → LastFailed before.read_faults after.read_faults
-  read_failed st same end = let fault : EndsInText command before after status.ReadFault = subst (EndsInText command before after) same end in fault.1
-
-  write_failed : (st : Status) → st ≡ status.WriteFault → EndsInText command before after st → LastFailed before.write_faults after.write_faults
-  write_failed st same end = let fault : EndsInText command before after status.WriteFault = subst (EndsInText command before after) same end in fault.0
 
 -- ---- how the program ends
 cut_short : (before after : Outside) (st : Status) (number : ℕ)
@@ -193,22 +102,6 @@ module _ (command : Option Command) (before after : Outside) where
     no_write = λ other. client_no_write (task_of port client pid calls) (wired_of before) (wired_of after) how (λ same. other (is ∙ ap number_of (st_is ∙ same))) ends;
     no_wire = λ other. cut_short before after (client_status how) number (client_no_wire (task_of port client pid calls) (wired_of before) (wired_of after) how (λ same. other (is ∙ ap number_of (st_is ∙ same))) ends) (λ st same. is ∙ ap number_of (st_is ∙ same));
   }
-
--- ---- what values ask for
-pub transcript_answer : (s : Schedule) (output : Output) → AsksTranscript s output → IsAnswer output.status
-transcript_answer s output asked = subst IsAnswer (sym (status_is asked)) tt
-
-verdict_answer : (count : ℕ) (v : Verdict) → IsAnswer (verdict_output count v).status
-verdict_answer count verdict.Run = tt
-verdict_answer count (verdict.NotRun entry) = tt
-
-pub history_answer : (h : History) (output : Output) → AsksVerdict h output → IsAnswer output.status
-history_answer h output (v, is, asked) = subst IsAnswer (sym (status_is asked)) (verdict_answer (length h.1) v)
-
--- a verdict by its status
-pub run_of : (h : History) (v : Verdict) → IsVerdict h.0.node h.1 v → (verdict_output (length h.1) v).status ≡ status.Ok → v ≡ verdict.Run
-run_of h verdict.Run is st = refl
-run_of h (verdict.NotRun entry) is st = absurd (differs _ _ st (λ same. omega (arith, same)))
 
 bad_entry_of : (bytes : List ℕ) (h : History) → IsCheckable bytes h → (v : Verdict) → IsVerdict h.0.node h.1 v → (verdict_output (length h.1) v).status ≡ status.NotRun → HasBadEntry bytes
 bad_entry_of bytes h checkable verdict.Run is st = absurd (differs _ _ st (λ same. omega (arith, same)))

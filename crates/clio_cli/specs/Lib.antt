@@ -1,10 +1,5 @@
 pub mod Words
-pub mod Status
-pub mod Outputs
 pub mod Run
-pub mod Suited
-pub mod Headline
+pub mod Succeeds
 pub mod Runs
-pub mod Gathered
-pub mod Replay
 pub mod Wanted

@@ -1,12 +1,10 @@
 -- What the program does, as its source, its sink, its wire and its clock show it.
-use Rattle.std.specs.Prelude.{◌≡◌, ◌⊎◌, ℕ, ◌+◌, Bool, true, false, List, [], length, IfSome, IsTrue, Some, None}
+use Rattle.std.specs.Prelude.{◌≡◌, ◌⊎◌, ℕ, List, IfSome, IsTrue, Some, None}
 use Rattle.std.specs.declared.option.Option.{Option}
 use Rattle.cl_outside.specs.Counts.{LastFailed, NoneFailed}
-use Rattle.cl_outside.specs.Loops.{TookUpTo, WroteFront}
-use Rattle.cl_outside.specs.Told.{Added, Took}
+use Rattle.cl_outside.specs.Told.{Added}
 use Rattle.cl_outside.specs.Wire.{Binding}
 use Rattle.cl_outside.specs.declared.faults.Faults.{Faults}
-use Rattle.cl_types.specs.declared.limits.TheConstants.{INPUT_BYTES}
 use Rattle.cl_types.specs.declared.numbers.ClientNo.{ClientNo}
 use Rattle.cl_types.specs.declared.open_fault.OpenFault.{OpenFault}
 use Rattle.cl_types.specs.declared.schedule.Schedule.{Schedule}
@@ -23,29 +21,13 @@ use Rattle.texts.specs.Text.{Text}
 use Rattle.transcript_text.specs.HistoryGrammar.{history_of}
 use Rattle.wire_loop.specs.Serves.{Told}
 use Rattle.wire_loop.specs.Wired.{Wired, wired}
-use Rattle.clio_cli.specs.Outputs.{AnswersCheck, AnswersReplay, AsksTranscript, AsksVerdict, Calls, HasBadEntry, HasBadNode, History, IsCheckable, IsRefused, IsReplayable, IsScript, IsTooLong, RefusesScript, bad_words, history_fault, schedule_fault, storm_output}
-use Rattle.clio_cli.specs.Status.{number_of}
-use Rattle.clio_cli.specs.Words.{reads_input}
-use Rattle.clio_cli.specs.declared.judge.Output.{Output}
-use Rattle.clio_cli.specs.declared.status.Status.{Status}
-use Rattle.clio_cli.specs.declared.status.Status.TheVariants as status
-
--- ---- what shows
--- what the source has left and the sink was given, where they tell, and which of their calls failed
-pub record Streams : Type 0 where
-  pub left : Option (List ℕ)
-  pub read_faults : Faults
-  pub written : Option (List ℕ)
-  pub write_faults : Faults
-
--- the same, of these
-abbrev pub streams : Option (List ℕ) → Faults → Option (List ℕ) → Faults → Streams
-streams left read_faults written write_faults = record {
-  left = left;
-  read_faults = read_faults;
-  written = written;
-  write_faults = write_faults;
-}
+use Rattle.command_text.specs.Outputs.{AsksTranscript, AsksVerdict, Calls, HasBadEntry, HasBadNode, History, IsCheckable, IsRefused, IsReplayable, IsScript, IsTooLong, bad_words, history_fault, schedule_fault, storm_output}
+use Rattle.command_text.specs.Status.{number_of}
+use Rattle.command_text.specs.TextEnds.{reads_input, EndsInText}
+use Rattle.command_text.specs.declared.output.Output.{Output}
+use Rattle.command_text.specs.declared.status.Status.{Status}
+use Rattle.command_text.specs.declared.status.Status.TheVariants as status
+use Rattle.command_text.specs.Streams.{Streams, IsInput, IsUnread}
 
 -- what wire and clock tell, the last bind, and which calls of the wire failed
 pub record Network : Type 0 where
@@ -70,78 +52,12 @@ outside streams network = record { streams = streams; network = network }
 abbrev pub wired_of : Outside → Wired
 wired_of o = wired o.network.told o.network.last_bind o.network.faults o.streams.written o.streams.write_faults
 
--- ---- the input
--- these are all bytes of the source, which was read to its end
-pub record IsInput (bytes : List ℕ) (before after : Option (List ℕ)) : Type 0 where
-  pub whole : IfSome before (λ left. bytes ≡ left)
-  pub ended : IfSome after (λ left. left ≡ [])
-
--- these were taken off the source, and are one more than an input may have
-pub record IsTooMany (bytes : List ℕ) (before after : Option (List ℕ)) : Type 0 where
-  pub count : length bytes ≡ INPUT_BYTES + 1
-  pub taken : Took bytes before after
-
--- what the source gave: all that it had, or one byte more than an input may have
-abbrev pub Gave : List ℕ → Option (List ℕ) → Option (List ℕ) → Type 0
-Gave bytes before after = IsInput bytes before after ⊎ IsTooMany bytes before after
-
--- the source was not touched
-pub record IsUnread (before after : Streams) : Type 0 where
-  pub left : after.left ≡ before.left
-  pub faults : after.read_faults ≡ before.read_faults
-
 -- these are the calls of the script that the source gave, which was read to its end
 pub record TookScript (calls : Calls) (before after : Streams) : Type 0 where
   pub bytes : List ℕ
   pub input : IsInput bytes before.left after.left
   pub script : IsScript bytes calls
   pub faults : NoneFailed before.read_faults after.read_faults
-
--- ---- what is to be written
--- the output that a command asks for, with what the source has left before and after: one that reads an input asks by
--- what the source gave, of which a client asks for an output only where its script is refused; any other leaves the
--- source as it was, and a node asks for none
-abbrev pub Asks : Option Command → Option (List ℕ) → Option (List ℕ) → Output → Type 0
-Asks (Some Replay) before after output = (bytes : List ℕ) × Gave bytes before after × AnswersReplay bytes output
-Asks (Some Check) before after output = (bytes : List ℕ) × Gave bytes before after × AnswersCheck bytes output
-Asks (Some (Storm seed calls)) before after output = (after ≡ before) × (output ≡ storm_output seed calls)
-Asks (Some (Serve port config frames idles)) before after output = ⊥
-Asks (Some (Drive port client pid)) before after output = (bytes : List ℕ) × Gave bytes before after × RefusesScript bytes output
-Asks None before after output = (after ≡ before) × (output ≡ bad_words)
-
--- ---- the end
--- what was taken off the source, by whether an input is read: nothing, or at most so many bytes
-abbrev pub TakesBy : Bool → ℕ → Option (List ℕ) → Option (List ℕ) → Type 0
-TakesBy false most before after = after ≡ before
-TakesBy true most before after = TookUpTo most before after
-
--- nothing was written, or a front of what was to be written
-abbrev pub WroteSome : Option Command → Streams → Streams → Type 0
-WroteSome command before after =
-    ((after.written ≡ before.written) × TakesBy (reads_input command) (INPUT_BYTES + 1) before.left after.left)
-    ⊎ ((output : Output) × Asks command before.left after.left output × WroteFront output.text before.written after.written)
-
--- with which status a command ends that asks for an output
-abbrev pub EndsInText : Option Command → Streams → Streams → Status → Type 0
--- the command reads an input, of all reads the last alone failed, when no more was taken than an input may have, and
--- nothing was written
-EndsInText command before after status.ReadFault =
-    IsTrue (reads_input command) × LastFailed before.read_faults after.read_faults × (after.written ≡ before.written)
-    × NoneFailed before.write_faults after.write_faults × TookUpTo INPUT_BYTES before.left after.left
--- of all writes the last alone failed, no read did, and a front of what was to be written was
-EndsInText command before after status.WriteFault =
-    LastFailed before.write_faults after.write_faults × NoneFailed before.read_faults after.read_faults
-    × (output : Output) × Asks command before.left after.left output × WroteFront output.text before.written after.written
--- there was no memory, and a front of what was to be written was, or nothing
-EndsInText command before after status.NoMemory =
-    NoneFailed before.read_faults after.read_faults × NoneFailed before.write_faults after.write_faults × WroteSome command before after
--- no output has these
-EndsInText command before after status.WireFault = ⊥
-EndsInText command before after status.Stalled = ⊥
--- the output has this status, and its text was written, whole
-EndsInText command before after status =
-    NoneFailed before.read_faults after.read_faults × NoneFailed before.write_faults after.write_faults
-    × (output : Output) × Asks command before.left after.left output × (output.status ≡ status) × Added output.text before.written after.written
 
 -- the status with which serving a node ends
 abbrev pub node_status : NodeEnd → Status

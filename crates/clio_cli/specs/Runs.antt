@@ -2,11 +2,11 @@
 use Rattle.std.specs.Prelude.{◌≡◌, ℕ, List, None}
 use Rattle.texts.specs.Commands.{command_in}
 use Rattle.texts.specs.Text.{Text}
-use Rattle.clio_cli.specs.Headline.{EndsInHeadline, LeavesNothing}
+use Rattle.clio_cli.specs.Succeeds.{EndsInHeadline, LeavesNothing}
 use Rattle.clio_cli.specs.Run.{Complete, EndsWith, Exactly, ExactlyClosed, ExactlyOf, FaultsEndTheRun, HasBadInput, HasLongInput, HasNoRun, HasStalled, LetsNetworkBe, Outside}
-use Rattle.clio_cli.specs.Status.{number_of}
-use Rattle.clio_cli.specs.declared.left.Left.{Left}
-use Rattle.clio_cli.specs.declared.status.Status.TheVariants as status
+use Rattle.command_text.specs.Status.{number_of}
+use Rattle.command_text.specs.declared.left.Left.{Left}
+use Rattle.command_text.specs.declared.status.Status.TheVariants as status
 
 -- a command line was served: from what source, sink, wire and clock showed before to what they show after, with this
 -- left, and with the status of this number

@@ -1,23 +1,15 @@
 -- What a command line asks for, as a value of the program.
-use Rattle.std.specs.Prelude.{◌≤◌, ℕ, [], Bool, true, false, Option, Some, None}
+use Rattle.std.specs.Prelude.{◌≤◌, ℕ, [], Option, Some, None}
 use Rattle.cl_types.specs.declared.config.NodeConfig.{NodeConfig}
-use Rattle.cl_types.specs.declared.numbers.ClientNo.{ClientNo}
 use Rattle.client_command.specs.Ends.{Task, task_of}
 use Rattle.node_command.specs.Ends.{NodeNumbers, numbers}
 use Rattle.storm_gen.specs.declared.limits.TheConstants.{MOST_CALLS}
 use Rattle.texts.specs.Commands.{Command, Replay, Check, Storm, Serve, Drive}
-use Rattle.clio_cli.specs.Outputs.{Calls}
+use Rattle.command_text.specs.Outputs.{Calls}
 use Rattle.clio_cli.specs.declared.words.Asked.{Asked}
 use Rattle.clio_cli.specs.declared.words.Asked.TheVariants as asked
 use Rattle.clio_cli.specs.declared.words.ClientWords.{ClientWords}
 use Rattle.clio_cli.specs.declared.words.NodeWords.{NodeWords}
-
--- the command reads an input
-abbrev pub reads_input : Option Command → Bool
-reads_input (Some Replay) = true
-reads_input (Some Check) = true
-reads_input (Some (Drive port client pid)) = true
-reads_input other = false
 
 -- the configuration of a node that is served: it has no offloads
 abbrev pub config_of : NodeWords → NodeConfig

@@ -1,36 +1,21 @@
-//! The commands of the program: `replay`, `check` and `storm` write a text, `node` serves a node on a
-//! port, and `client` drives a client through a script.
+//! The commands of the program behind one call: it reads the words, serves the command that they ask
+//! for, and answers the number of a status.
 //!
 //! A contract sees words as the list of their bytes; of source and sink what is left and what was
 //! written; of wire and clock what is to come, what was sent, the last bind, and what the clock is to
-//! answer; and which calls failed. `run` answers the number of a status. `specs/Outputs.antt` says
-//! what is to be written for the bytes of an input, and with which status; `specs/Run.antt` how a
-//! command ends; and `specs/Headline.antt` what every history that is printed keeps, and what is
-//! left of a command that succeeded. The turns of `node` and `client` are those of `wire_loop`.
+//! answer; and which calls failed. `specs/Run.antt` says how a command ends, and `specs/Succeeds.antt`
+//! what is left of one that succeeded; `specs/Runs.antt` has all that is promised of `run`.
 //!
-//! A transcript is written as it is made, a line behind an event, over `world::World`. Lines are
-//! held until there are 65,536 bytes of them; no clause says how many are held, or how much memory
-//! that takes. Where memory runs out, all finished lines are written before the run ends. A history
-//! that is checked is judged by `history_check`, which uses no part of the node; and so is the
-//! history of a storm, which is a run by law, before that is written.
+//! `replay`, `check` and `storm` are crates of their own, and so are `node` and `client` but for what
+//! `script` and `loops` add: the reading of a client's script, and the statuses. What the commands that
+//! write a text have in common is in `command_text`.
 #![tactic(auto)]
 
-mod faults;
-mod gather;
-mod input;
-mod judge;
-mod laws;
-mod left;
 mod loops;
-mod replay;
-mod say;
 mod script;
-mod status;
-mod storm;
 mod top;
 mod words;
 
-pub use laws::{headline, schedules_suit_worlds};
-pub use left::Left;
+pub use command_text::Left;
 pub use top::run;
 pub use words::Words;

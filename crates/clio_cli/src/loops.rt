@@ -8,13 +8,12 @@ ghost use Rattle.clio_cli.specs.Run.{client_status, node_status};
 ghost use Rattle.clio_cli.specs.Wanted.{DrivesClient, ServesNode, client_left, node_left};
 ghost use Rattle.clio_cli.specs.Words.{client_task, config_of, node_numbers};
 
-use crate::left::Left;
-use crate::status::Status;
 use crate::words::{ClientWords, NodeWords};
 use cl_outside::{Clock, Sink, Wire};
 use cl_types::config::{NodeConfig, OffloadList};
 use cl_types::schedule::Script;
 use client_command::{ClientEnd, drive_client};
+use command_text::{Left, Status};
 use node_command::{NodeEnd, serve_node};
 use std::alloc::Global;
 

@@ -3,13 +3,13 @@
 ghost use Rattle.std.specs.Prelude.{◌+◌, IfOk, IsErrOf};
 ghost use Rattle.cl_outside.specs.Loops.{TookUpTo};
 ghost use Rattle.cl_types.specs.declared.limits.TheConstants.{INPUT_BYTES};
-ghost use Rattle.clio_cli.specs.Wanted.{CountsHalt, IsScriptedBy, IsScriptedOf};
+ghost use Rattle.command_text.specs.Serving.{CountsHalt};
+ghost use Rattle.clio_cli.specs.Wanted.{IsScriptedBy, IsScriptedOf};
 
-use crate::input::{Halt, Input, take_input};
-use crate::judge::{Output, refuse, too_many};
 use cl_outside::Source;
 use cl_types::items::NoMemory;
 use cl_types::schedule::Script;
+use command_text::{Halt, Input, Output, refuse, take_input, too_many};
 use schedule_text::read_script;
 use std::alloc::Global;
 

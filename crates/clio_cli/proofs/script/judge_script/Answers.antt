@@ -1,7 +1,7 @@
 use Rattle.std.proofs.Common.{refl}
 use Rattle.texts.specs.Grammar.{script_of}
-use Rattle.clio_cli.specs.Outputs.{Calls, no_fault}
-use Rattle.clio_cli.proofs.JudgeLemmas.{unread_input}
+use Rattle.command_text.specs.Outputs.{Calls, no_fault}
+use Rattle.command_text.proofs.InputLemmas.{unread_input}
 use Rattle.clio_cli.proofs.script.judge_script.Goals as goal
 
 pub returns-in-Ok : goal.returns-in-Ok

@@ -1,5 +1,5 @@
 use Rattle.std.proofs.Common.{subst}
-use Rattle.clio_cli.specs.Wanted.{IsTaken}
+use Rattle.command_text.specs.Serving.{IsTaken}
 use Rattle.clio_cli.proofs.ServeLemmas.{many_scripted, whole_scripted}
 use Rattle.clio_cli.proofs.script.wanted_script.Goals as goal
 

@@ -1,6 +1,7 @@
 use Rattle.wire_loop.specs.Serves.{incoming, told_of}
-use Rattle.clio_cli.specs.Run.{network, outside, streams}
-use Rattle.clio_cli.proofs.HeadlineLemmas.{runs}
+use Rattle.clio_cli.specs.Run.{network, outside}
+use Rattle.command_text.specs.Streams.{streams}
+use Rattle.clio_cli.proofs.RunsLemmas.{runs}
 use Rattle.clio_cli.proofs.top.run.Goals as goal
 
 pub returns : goal.returns

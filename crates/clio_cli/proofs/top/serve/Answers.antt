@@ -1,12 +1,15 @@
 use Rattle.std.proofs.Common.{◌∙◌, None, Some, ap, refl, subst, sym}
 use Rattle.wire_loop.specs.Serves.{incoming, told_of}
-use Rattle.clio_cli.specs.Run.{network, outside, streams}
-use Rattle.clio_cli.specs.Wanted.{Serves, ServesInText}
+use Rattle.clio_cli.specs.Run.{network, outside}
+use Rattle.command_text.specs.Streams.{streams}
+use Rattle.clio_cli.specs.Wanted.{Serves}
+use Rattle.command_text.specs.Serving.{ServesInText}
 use Rattle.clio_cli.specs.Words.{IsWithinLimits, command_of, node_numbers}
 use Rattle.clio_cli.specs.declared.words.Asked.{Asked}
 use Rattle.clio_cli.specs.declared.words.Asked.TheVariants.{Replay, Check, Storm}
-use Rattle.clio_cli.proofs.ServeLemmas.{in_text, node_serves, storm_serves, words_serve}
-use Rattle.clio_cli.proofs.StormLemmas.{generated_served}
+use Rattle.clio_cli.proofs.ServeLemmas.{in_text, node_serves, words_serve}
+use Rattle.storm_command.proofs.StormLemmas.{storm_serves}
+use Rattle.storm_command.proofs.StormLemmas.{generated_served}
 use Rattle.clio_cli.proofs.top.serve.Goals as goal
 
 pub returns-in-None : goal.returns-in-None
@@ -43,13 +46,13 @@ pub returns-in-Some-Storm : goal.returns-in-Some-Storm
 returns-in-Some-Storm g c =
     let before = (outside (streams (g.S.Source.left c.args.source.now) (g.S.Source.faults c.args.source.now) (g.K.Sink.written c.args.sink.now) (g.K.Sink.faults c.args.sink.now))
     (network (told_of (incoming (g.W.Wire.coming c.args.wire.now) (g.W.Wire.idles c.args.wire.now)) (g.W.Wire.sent c.args.wire.now) (g.C.Clock.moments c.args.clock.now)) (g.W.Wire.last_bind c.args.wire.now) (g.W.Wire.faults c.args.wire.now))) in
-    let after = (outside (streams (g.S.Source.left c.args.source.now) (g.S.Source.faults c.args.source.now) (g.K.Sink.written c.storm.new.sink) (g.K.Sink.faults c.storm.new.sink))
+    let after = (outside (streams (g.S.Source.left c.args.source.now) (g.S.Source.faults c.args.source.now) (g.K.Sink.written c.serve_storm.new.sink) (g.K.Sink.faults c.serve_storm.new.sink))
     (network (told_of (incoming (g.W.Wire.coming c.args.wire.now) (g.W.Wire.idles c.args.wire.now)) (g.W.Wire.sent c.args.wire.now) (g.C.Clock.moments c.args.clock.now)) (g.W.Wire.last_bind c.args.wire.now) (g.W.Wire.faults c.args.wire.now))) in
     let few = subst IsWithinLimits c.in-Some-Storm.field-0-is c.in-Some-Storm.ensures.limits in
     let asked = c.in-Some-Storm.ensures.asked ∙ ap (λ (a : Asked). Some (command_of a)) c.in-Some-Storm.field-0-is in
-    subst (λ command. Serves command before after c.storm.new.left c.storm.result) (sym asked)
-    (in_text (Some (command_of (Storm c.in-Some-Storm.seed c.in-Some-Storm.calls))) before after c.storm.new.left c.storm.result refl
-    (storm_serves c.in-Some-Storm.seed c.in-Some-Storm.calls (generated_served c.in-Some-Storm.seed c.in-Some-Storm.calls few) before.streams after.streams c.storm.new.left refl refl c.storm.result c.storm.ensures))
+    subst (λ command. Serves command before after c.serve_storm.new.left c.serve_storm.result) (sym asked)
+    (in_text (Some (command_of (Storm c.in-Some-Storm.seed c.in-Some-Storm.calls))) before after c.serve_storm.new.left c.serve_storm.result refl
+    (storm_serves c.in-Some-Storm.seed c.in-Some-Storm.calls (generated_served c.in-Some-Storm.seed c.in-Some-Storm.calls few) before.streams after.streams c.serve_storm.new.left refl refl c.serve_storm.result c.serve_storm.ensures))
 
 pub returns-in-Some-Serve : goal.returns-in-Some-Serve
 returns-in-Some-Serve g c =

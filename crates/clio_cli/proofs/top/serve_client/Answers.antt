@@ -2,12 +2,15 @@ use Rattle.std.proofs.Common.{Some, Err, ap, refl, subst}
 use Rattle.cl_outside.specs.Counts.{LastFailed, NoneFailed}
 use Rattle.texts.specs.Commands.{Drive}
 use Rattle.wire_loop.specs.Serves.{incoming, told_of}
-use Rattle.clio_cli.specs.Run.{network, outside, streams}
-use Rattle.clio_cli.specs.Wanted.{CountsHalt, IsScriptedOf}
-use Rattle.clio_cli.specs.declared.input.Halt.{Halt}
+use Rattle.clio_cli.specs.Run.{network, outside}
+use Rattle.command_text.specs.Streams.{streams}
+use Rattle.command_text.specs.Serving.{CountsHalt}
+use Rattle.clio_cli.specs.Wanted.{IsScriptedOf}
+use Rattle.command_text.specs.declared.input.Halt.{Halt}
 use Rattle.clio_cli.specs.declared.script.WantedScript.{WantedScript}
-use Rattle.clio_cli.specs.declared.status.Status.TheVariants as status
-use Rattle.clio_cli.proofs.ServeLemmas.{client_serves, fault_serves, in_text, memory_serves, script_is_short, unscripted_serves}
+use Rattle.command_text.specs.declared.status.Status.TheVariants as status
+use Rattle.clio_cli.proofs.ServeLemmas.{client_serves, in_text, script_is_short, unscripted_serves}
+use Rattle.command_text.proofs.ServeLemmas.{fault_serves, memory_serves}
 use Rattle.clio_cli.proofs.top.serve_client.Goals as goal
 
 pub drive_words-requires-clause-few : goal.drive_words-requires-clause-few

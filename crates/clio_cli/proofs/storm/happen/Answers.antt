@@ -1,7 +1,0 @@
-use Rattle.clio_cli.proofs.storm.happen.Goals as goal
-
-pub returns-clause-line : goal.returns-clause-line
-returns-clause-line c = c.in_ok-event.ensures.line
-
-pub returns-clause-stands : goal.returns-clause-stands
-returns-clause-stands c config events good stands = (c.in_ok-event.ensures.stands config events good stands).1

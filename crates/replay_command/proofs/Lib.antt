@@ -1,0 +1,5 @@
+pub mod StepLemmas
+pub mod GatherLemmas
+pub mod ReplayLemmas
+pub mod JudgeLemmas
+pub mod ServeLemmas
