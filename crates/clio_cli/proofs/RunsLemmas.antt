@@ -1,5 +1,5 @@
 -- What is promised of a command line, by how it was served.
-use Rattle.std.proofs.Common.{◌≡◌, ◌∙◌, ℕ, List, Ok, subst, sym}
+use Rattle.std.proofs.Common.{◌≡◌, ◌∙◌, ℕ, List, subst, sym}
 use Rattle.texts.specs.Commands.{command_in}
 use Rattle.texts.specs.Text.{Text}
 use Rattle.clio_cli.specs.Succeeds.{EndsInHeadline, LeavesNothing}

@@ -1,5 +1,5 @@
 -- What a command leaves that succeeds.
-use Rattle.std.specs.Prelude.{◌≡◌, ℕ, List, Ok, Option, Some}
+use Rattle.std.specs.Prelude.{◌≡◌, ℕ, List, Option, Some}
 use Rattle.client_command.specs.Ends.{ClientEnds, Task, task_of}
 use Rattle.client_command.specs.declared.ends.ClientEnd.TheVariants as client_end
 use Rattle.client_model.specs.Client.{ClientState}

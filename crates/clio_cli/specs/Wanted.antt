@@ -1,5 +1,5 @@
 -- What a client asks of its input, and how serving a command ends. No public clause cites this module.
-use Rattle.std.specs.Prelude.{◌≡◌, ℕ, List, Option, Ok}
+use Rattle.std.specs.Prelude.{◌≡◌, ℕ, List, Option}
 use Rattle.texts.specs.Commands.{Command}
 use Rattle.client_command.specs.Ends.{ClientEnds, Task}
 use Rattle.client_command.specs.declared.ends.ClientEnd.{ClientEnd}
