@@ -253,6 +253,14 @@ module _ (no : ClientNo) (pid issued sendings : ℕ) (calls : Holding) (f : Flig
       nothing : to_send old ≡ None
       nothing = subst (λ z. to_send z ≡ None) is (either (has_room_in_flight (state_of no pid issued sendings calls f last)))
 
+  -- the calls are as they were
+  pub same_sound : (calls' : Holding) → calls' ≡ calls → IsSound (state_of no pid issued sendings calls' f last) calls'.held f
+  same_sound calls' same = subst (λ (c : Holding). IsSound (state_of no pid issued sendings c f last) c.held f) (sym same) sound
+
+  pub idles_noted : (calls' : Holding) → calls' ≡ calls → (o : Option Part) → o ≡ part_to_send calls.held → o ≡ None → (out : List ℕ) → Does (unwrap_or (to_send old) Idles) old (state_of no pid issued sendings calls' f last) poll.Idle out out
+  idles_noted calls' same o e none out =
+      subst (λ s. Does (unwrap_or (to_send old) Idles) old s poll.Idle out out) (sym (ap (λ (c : Holding). state_of no pid issued sendings c f last) same ∙ is)) (idles_none o e none out)
+
   pub sends_next : (part : Part) → option_map (λ (p : ClientPart). p.part) (slice_get (sendable old) 0) ≡ Some part → has_room_in_flight old ≡ true → (new : ClientState) (answer : Poll) (out out' : List ℕ) →
       ((p : Polled) → to_send old ≡ Some p → Does p old new answer out out') → Does (unwrap_or (to_send old) Idles) old new answer out out'
   sends_next part next room new answer out out' does =

@@ -1,18 +1,18 @@
 -- A call among those that are held is changed, or ends.
 use Rattle.std.proofs.Common.{◌≡◌, ℕ, zero, suc, ◌+◌, ◌<◌, ◌≤◌, List, [], ◌∷◌, ◌++◌, refl, ap, sym, ◌∙◌, subst, Some, None, Option, Bool, true, false, cond, arith, map, get_or, set, take, drop, length}
-use Rattle.std.specs.Prelude.{◌==◌, ◌&&◌, not, nat_lt, filter, filter_map, slice_get, option_and_then, option_map, is_none, is_some, IfSome}
+use Rattle.std.specs.Prelude.{◌==◌, ◌&&◌, not, nat_lt, filter, filter_map, find, slice_get, option_and_then, option_map, is_none, is_some, IfSome}
 use Rattle.std.specs.List.{AllByRecursion as Each, remove, cons_option}
 use Rattle.std.proofs.lemmas.Bool.Decides.{nat_tests}
-use Rattle.std.proofs.lemmas.List.{map-append}
+use Rattle.std.proofs.lemmas.List.{length-set, map-append}
 use Rattle.std.proofs.lemmas.Option.{get_or_from_slice_get, slice_get_read}
 use Rattle.cl_types.specs.declared.reply.Part.{Part}
 use Rattle.client_model.specs.Cut.{Ending, cut}
 use Rattle.client_model.specs.Client.{Finished, every}
-use Rattle.client_model.specs.Order.{Footprint, is_fence}
+use Rattle.client_model.specs.Order.{Footprint, is_fence, ready_in}
 use Rattle.client_core.specs.declared.ended.Ended.{Ended}
 use Rattle.client_core.specs.Rows.{AreKept, finished_of}
 use Rattle.client_core.specs.Valid.{AreRising}
-use Rattle.client_core.specs.Held.{Held, Holding, after_coming, changed, ended_of, ended_with, fence_first_in, has_unsent, held_at, print_of, request_at, with_came, with_ends, with_one_sent}
+use Rattle.client_core.specs.Held.{Held, Holding, after_coming, changed, ended_of, ended_with, fence_first_in, has_unsent, held_at, may_send, next_part, part_to_send, print_of, request_at, with_came, with_ends, with_one_sent}
 use Rattle.client_core.proofs.Basics.{contrary, eqb_above, eqb_below, none_some}
 use Rattle.client_core.proofs.Naming.{all_above, numbers}
 use Rattle.lemmas.proofs.Lists.{find_some as each_found}
@@ -175,14 +175,25 @@ order_ends m last (x ∷ hs) (suc at) h r e =
     ∙ ap (λ ks. print_of x ∷ ks) (order_ends x.number last hs at h r.1 e)
 
 -- ---- what is kept
-pub kept_after : {hs hs' : List Held} {order order' : List (ℕ × Footprint)} {room room' room_for_ended room_for_ended' : ℕ} (at last : ℕ) (h : Held) → AreKept hs order room room_for_ended → AreRising 0 last (numbers hs) → at < length hs → h ≡ get_or hs at h →
-    (n : ℕ) → n ≡ h.number → order' ≡ filter (λ k. not (k.0 == n)) order → hs' ≡ remove hs at → room' ≡ room → room_for_ended' ≡ room_for_ended → AreKept hs' order' room' room_for_ended'
+-- where nothing is noted, nothing need be shown
+pub not_noted : {A : Type 0} → false ≡ true → A
+not_noted h = absurd cc
+
+pub kept_anew : {hs : List Held} {order : List (ℕ × Footprint)} {room room_for_ended : ℕ} {quiet : Bool} → AreKept hs order room room_for_ended quiet → AreKept hs order room room_for_ended false
+kept_anew kept = record { ordered = kept.ordered; reserved = kept.reserved; reserved_for_ended = kept.reserved_for_ended; nothing_to_send = not_noted }
+
+pub kept_quiet : {hs : List Held} {order : List (ℕ × Footprint)} {room room_for_ended : ℕ} {quiet : Bool} → AreKept hs order room room_for_ended quiet → part_to_send hs ≡ None → AreKept hs order room room_for_ended true
+kept_quiet kept none = record { ordered = kept.ordered; reserved = kept.reserved; reserved_for_ended = kept.reserved_for_ended; nothing_to_send = λ noted. none }
+
+pub kept_after : {hs hs' : List Held} {order order' : List (ℕ × Footprint)} {room room' room_for_ended room_for_ended' : ℕ} {quiet : Bool} (at last : ℕ) (h : Held) → AreKept hs order room room_for_ended quiet → AreRising 0 last (numbers hs) → at < length hs → h ≡ get_or hs at h →
+    (n : ℕ) → n ≡ h.number → order' ≡ filter (λ k. not (k.0 == n)) order → hs' ≡ remove hs at → room' ≡ room → room_for_ended' ≡ room_for_ended → AreKept hs' order' room' room_for_ended' false
 kept_after {hs} at last h kept rising within is n n_is order_is hs_is room_is room_for_ended_is = record {
   ordered =
       order_is ∙ (λ i. filter (λ k. not (k.0 == n_is i)) (kept.ordered i))
       ∙ order_ends 0 last hs at h rising (slice_get_read hs (length hs) at h refl within is) ∙ ap (map print_of) (sym hs_is);
   reserved = subst (λ m. 256 ≤ m) (sym room_is) kept.reserved;
   reserved_for_ended = subst (λ m. 256 ≤ m) (sym room_for_ended_is) kept.reserved_for_ended;
+  nothing_to_send = not_noted;
 }
 
 pub fence_some : (hs : List Held) → is_some (fence_first_in hs) ≡ true → 0 < length hs
@@ -209,11 +220,49 @@ is_at hs hs1 at n row h same found e read =
     always [] = tt
     always (x ∷ xs) = (tt, always xs)
 
-pub kept_set : {hs : List Held} {order : List (ℕ × Footprint)} {room room_for_ended : ℕ} (at : ℕ) (row row' : Held) → AreKept hs order room room_for_ended → slice_get hs at ≡ Some row → print_of row' ≡ print_of row → AreKept (set hs at row') order room room_for_ended
+pub kept_set : {hs : List Held} {order : List (ℕ × Footprint)} {room room_for_ended : ℕ} (at : ℕ) (row row' : Held) → AreKept hs order room room_for_ended false → slice_get hs at ≡ Some row → print_of row' ≡ print_of row →
+    AreKept (set hs at row') order room room_for_ended false
 kept_set {hs} at row row' kept there same = record {
   ordered = kept.ordered ∙ sym (prints_set hs at row row' there same);
   reserved = kept.reserved;
   reserved_for_ended = kept.reserved_for_ended;
+  nothing_to_send = not_noted;
+}
+
+pub print_came : (i : ℕ) (e : Ending) (row row' : Held) → row' ≡ with_came i e row → print_of row' ≡ print_of row
+print_came i e row row' is = ap print_of is
+
+-- what comes of a part changes nothing of what may be sent
+came_may : (ks : List (ℕ × Footprint)) (i : ℕ) (e : Ending) (row : Held) → may_send ks (with_came i e row) ≡ may_send ks row
+came_may ks i e row = ap (λ n. nat_lt row.sent n && ready_in ks row.number) (length-set row.came i (Some e))
+
+came_found : (ks : List (ℕ × Footprint)) (hs : List Held) (at i : ℕ) (e : Ending) (row : Held) → slice_get hs at ≡ Some row → option_map next_part (find (may_send ks) (set hs at (with_came i e row))) ≡ option_map next_part (find (may_send ks) hs)
+came_found ks [] at i e row there = refl
+came_found ks (x ∷ hs) zero i e row there =
+    let same : x ≡ row = cc in
+    ap (λ b. option_map next_part (cond b (Some (with_came i e row)) (find (may_send ks) hs))) (came_may ks i e row) ∙ go (may_send ks row)
+    ∙ ap (λ (z : Held). option_map next_part (cond (may_send ks z) (Some z) (find (may_send ks) hs))) (sym same)
+  where
+    go : (b : Bool) → option_map next_part (cond b (Some (with_came i e row)) (find (may_send ks) hs)) ≡ option_map next_part (cond b (Some row) (find (may_send ks) hs))
+    go true = refl
+    go false = refl
+came_found ks (x ∷ hs) (suc at) i e row there = go (may_send ks x) (came_found ks hs at i e row there)
+  where
+    go : (b : Bool) → option_map next_part (find (may_send ks) (set hs at (with_came i e row))) ≡ option_map next_part (find (may_send ks) hs) →
+        option_map next_part (cond b (Some x) (find (may_send ks) (set hs at (with_came i e row)))) ≡ option_map next_part (cond b (Some x) (find (may_send ks) hs))
+    go true rest = refl
+    go false rest = rest
+
+pub kept_came : {hs : List Held} {order : List (ℕ × Footprint)} {room room_for_ended : ℕ} {quiet : Bool} (at i : ℕ) (e : Ending) (row row' : Held) → AreKept hs order room room_for_ended quiet → slice_get hs at ≡ Some row → row' ≡ with_came i e row →
+    AreKept (set hs at row') order room room_for_ended quiet
+kept_came {hs} at i e row row' kept there is = record {
+  ordered = kept.ordered ∙ sym (prints_set hs at row row' there (print_came i e row row' is));
+  reserved = kept.reserved;
+  reserved_for_ended = kept.reserved_for_ended;
+  nothing_to_send = λ noted.
+      ap (λ (x : Held). part_to_send (set hs at x)) is
+      ∙ ap (λ ks. option_map next_part (find (may_send ks) (set hs at (with_came i e row)))) (prints_set hs at row (with_came i e row) there refl)
+      ∙ came_found (map print_of hs) hs at i e row there ∙ kept.nothing_to_send noted;
 }
 
 -- ---- the call may have ended
@@ -296,9 +345,6 @@ pub some_within : {X : Type 0} (xs : List X) (i : ℕ) → is_some (slice_get xs
 some_within [] i e = absurd cc
 some_within (x ∷ xs) zero e = omega arith
 some_within (x ∷ xs) (suc i) e = let less : i < length xs = some_within xs i e in omega arith
-
-pub print_came : (i : ℕ) (e : Ending) (row row' : Held) → row' ≡ with_came i e row → print_of row' ≡ print_of row
-print_came i e row row' is = ap print_of is
 
 pub print_sent : (row row' : Held) → row' ≡ with_one_sent row → print_of row' ≡ print_of row
 print_sent row row' is = ap print_of is

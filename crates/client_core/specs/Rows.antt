@@ -1,5 +1,5 @@
 -- How the fields of a row stand for a call that has not ended. No public clause cites this module.
-use Rattle.std.specs.Prelude.{ℕ, ◌≡◌, ◌≤◌, List, length, map, count_by, is_none}
+use Rattle.std.specs.Prelude.{ℕ, ◌≡◌, ◌≤◌, Bool, true, List, length, map, count_by, is_none, None}
 use Rattle.cl_types.specs.declared.numbers.CallNo.{CallNo}
 use Rattle.cl_types.specs.declared.call.Call.{Call}
 use Rattle.client_model.specs.Client.{Finished, emptied}
@@ -8,7 +8,7 @@ use Rattle.call_cut.specs.declared.outcome.PartOutcome.{PartOutcome}
 use Rattle.call_cut.specs.Came.{came}
 use Rattle.call_cut.specs.Taking.{Gathers}
 use Rattle.client_core.specs.declared.ended.Ended.{Ended}
-use Rattle.client_core.specs.Held.{Held, print_of}
+use Rattle.client_core.specs.Held.{Held, part_to_send, print_of}
 use Rattle.cl_types.specs.declared.limits.TheConstants.{MOST_PARTS}
 
 -- what a row stands for
@@ -28,9 +28,10 @@ pub record IsRow (k : Call) (gather : List PartOutcome) (parts sent waiting : �
 abbrev pub finished_of : Ended → Finished
 finished_of e = record { number = e.no.0; answer = e.answer; call = e.call }
 
--- what holds of the rows, their order and the room at every moment
-pub record AreKept (held : List Held) (order : List (ℕ × Footprint)) (room room_for_ended : ℕ) : Type 0 where
+-- what holds of the rows, their order, the room and the note that nothing is to be sent, at every moment
+pub record AreKept (held : List Held) (order : List (ℕ × Footprint)) (room room_for_ended : ℕ) (quiet : Bool) : Type 0 where
   pub ordered : order ≡ map print_of held
   -- so taking a call and ending one takes no memory
   pub reserved : 256 ≤ room
   pub reserved_for_ended : 256 ≤ room_for_ended
+  pub nothing_to_send : quiet ≡ true → part_to_send held ≡ None

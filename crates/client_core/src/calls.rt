@@ -36,6 +36,9 @@ pub struct Calls {
     ended: VecDeque<Ended>,
     // Which of those that have not ended may go.
     order: Order,
+    // No part may be sent: this was found, and no call was taken, sent or ended since. So polls that find nothing to send don't
+    // ask each call again.
+    quiet: bool,
 }
 
 impl Model for Calls {
@@ -50,7 +53,7 @@ impl Model for Calls {
     ghost view = { λ c. record { held = c.rows.items; ended = map finished_of c.ended.items } };
 
     ghost invariant = { λ c. AreKept c.rows.items c.order
-        (vec_capacity c.rows) (deque_capacity c.ended) };
+        (vec_capacity c.rows) (deque_capacity c.ended) c.quiet };
 }
 
 impl Calls {
@@ -62,6 +65,7 @@ impl Calls {
             rows: Vec::with_capacity(alloc, HELD_CALLS as usize)?,
             ended: VecDeque::with_capacity(alloc, HELD_CALLS as usize)?,
             order: Order::create(alloc)?,
+            quiet: false,
         })
     }
 
@@ -80,6 +84,7 @@ impl Calls {
         ensures held { self.new.held ≡ self.old.held ++ new_held no.0 call ∷ [] }
         ensures ended { self.new.ended ≡ self.old.ended }
     {
+        self.quiet = false;
         self.order.add(no, &call);
         self.rows.push_reserved(CallRow::create(no, call));
     }
@@ -105,7 +110,18 @@ impl Calls {
     pub fn part_to_send(&self) -> Option<Part>
         ensures { result ≡ part_to_send self.now.held }
     {
+        if self.quiet {
+            return None;
+        }
         first_to_send(&self.rows, &self.order)
+    }
+
+    /// Takes that no part may be sent, as was just found.
+    pub fn note_quiet(&mut self)
+        requires { part_to_send self.old.held ≡ None }
+        ensures { self.new ≡ self.old }
+    {
+        self.quiet = true;
     }
 
     /// The request of a part.
@@ -123,6 +139,7 @@ impl Calls {
         ensures held { self.new.held ≡ changed no.0 with_one_sent self.old.held }
         ensures ended { self.new.ended ≡ self.old.ended }
     {
+        self.quiet = false;
         let at = row_at(&self.rows, no);
         let row = &mut self.rows[at];
         row.note_sent();
@@ -165,6 +182,7 @@ impl Calls {
             ++ record { number = result.0; answer = combine Fence []; call = Fence } ∷ [] }
         ensures number { fence_first_in self.old.held ≡ Some result }
     {
+        self.quiet = false;
         let no = self.rows.remove(0).no();
         self.order.end(no);
         self.ended.push_back_reserved(Ended {
@@ -190,6 +208,7 @@ impl Calls {
         if !self.rows[at].is_over() {
             return false;
         }
+        self.quiet = false;
         let row = self.rows.remove(at);
         self.order.end(row.no());
         self.ended.push_back_reserved(row.end());

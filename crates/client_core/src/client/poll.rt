@@ -118,6 +118,7 @@ impl Client {
             return Poll::Idle;
         }
         let Some(part) = self.calls.part_to_send() else {
+            self.calls.note_quiet();
             return Poll::Idle;
         };
         self.send(part, out)

@@ -4,14 +4,14 @@ use Rattle.client_model.specs.Cut.{GivenUp}
 use Rattle.client_model.specs.Order.{is_fence}
 use Rattle.client_core.specs.Held.{Held}
 use Rattle.client_core.specs.Valid.{AreRising}
-use Rattle.client_core.proofs.Edits.{Goes, came_so, each_at, is_at, kept_set, numbers_set, others_set, print_came, set_there}
+use Rattle.client_core.proofs.Edits.{Goes, came_so, each_at, is_at, kept_came, numbers_set, others_set, set_there}
 use Rattle.client_core.proofs.calls.Calls.give_up.Goals as goal
 
 pub invariant_of-self : goal.invariant_of-self
 invariant_of-self c =
     let found = is_at c.self.inside.rows.items c.deref.result.now c.row_at-at.result c.args.part.call.0 c.index_mut-row.result.now c.requires.awaited.h c.deref.ensures.value c.row_at-at.ensures.there
     (rw (← c.self.view_is) at c.requires.awaited.there) c.index_mut-row.ensures.value in
-    kept_set c.row_at-at.result c.index_mut-row.result.now c.give_up.new.self c.self.invariant found.there (print_came c.args.part.part (GivenUp c.args.first_sent c.args.now) c.index_mut-row.result.now c.give_up.new.self c.give_up.ensures)
+    kept_came c.row_at-at.result c.args.part.part (GivenUp c.args.first_sent c.args.now) c.index_mut-row.result.now c.give_up.new.self c.self.invariant found.there c.give_up.ensures
 
 pub end_where_over-requires-clause-apart : goal.end_where_over-requires-clause-apart
 end_where_over-requires-clause-apart c =
