@@ -1,10 +1,9 @@
 -- A call among those that are held is changed, or ends.
-use Rattle.std.proofs.Common.{◌≡◌, ℕ, zero, suc, ◌+◌, ◌<◌, ◌≤◌, List, [], ◌∷◌, ◌++◌, refl, ap, sym, ◌∙◌, subst, Some, None, Option, Bool, true, false, cond, arith, map, get_or, set, take, drop, length}
+use Rattle.std.proofs.Common.{◌≡◌, ℕ, zero, suc, ◌<◌, ◌≤◌, List, [], ◌∷◌, ◌++◌, refl, ap, sym, ◌∙◌, subst, Some, None, Option, Bool, true, false, cond, arith, map, set, length}
 use Rattle.std.specs.Prelude.{◌==◌, ◌&&◌, not, nat_lt, filter, filter_map, find, slice_get, option_and_then, option_map, is_none, is_some, IfSome}
 use Rattle.std.specs.List.{AllByRecursion as Each, remove, cons_option}
 use Rattle.std.proofs.lemmas.Bool.Decides.{nat_tests}
 use Rattle.std.proofs.lemmas.List.{length-set, map-append}
-use Rattle.std.proofs.lemmas.Option.{get_or_from_slice_get, slice_get_read}
 use Rattle.cl_types.specs.declared.reply.Part.{Part}
 use Rattle.client_model.specs.Cut.{Ending, cut}
 use Rattle.client_model.specs.Client.{Finished, every}
@@ -179,19 +178,18 @@ order_ends m last (x ∷ hs) (suc at) h r e =
 pub not_noted : {A : Type 0} → false ≡ true → A
 not_noted h = absurd cc
 
-pub kept_anew : {hs : List Held} {order : List (ℕ × Footprint)} {room room_for_ended : ℕ} {quiet : Bool} → AreKept hs order room room_for_ended quiet → AreKept hs order room room_for_ended false
-kept_anew kept = record { ordered = kept.ordered; reserved = kept.reserved; reserved_for_ended = kept.reserved_for_ended; nothing_to_send = not_noted }
+pub kept_anew : {hs : List Held} {order : List (ℕ × Footprint)} {room_for_ended : ℕ} {quiet : Bool} → AreKept hs order room_for_ended quiet → AreKept hs order room_for_ended false
+kept_anew kept = record { ordered = kept.ordered; reserved_for_ended = kept.reserved_for_ended; nothing_to_send = not_noted }
 
-pub kept_quiet : {hs : List Held} {order : List (ℕ × Footprint)} {room room_for_ended : ℕ} {quiet : Bool} → AreKept hs order room room_for_ended quiet → part_to_send hs ≡ None → AreKept hs order room room_for_ended true
-kept_quiet kept none = record { ordered = kept.ordered; reserved = kept.reserved; reserved_for_ended = kept.reserved_for_ended; nothing_to_send = λ noted. none }
+pub kept_quiet : {hs : List Held} {order : List (ℕ × Footprint)} {room_for_ended : ℕ} {quiet : Bool} → AreKept hs order room_for_ended quiet → part_to_send hs ≡ None → AreKept hs order room_for_ended true
+kept_quiet kept none = record { ordered = kept.ordered; reserved_for_ended = kept.reserved_for_ended; nothing_to_send = λ noted. none }
 
-pub kept_after : {hs hs' : List Held} {order order' : List (ℕ × Footprint)} {room room' room_for_ended room_for_ended' : ℕ} {quiet : Bool} (at last : ℕ) (h : Held) → AreKept hs order room room_for_ended quiet → AreRising 0 last (numbers hs) → at < length hs → h ≡ get_or hs at h →
-    (n : ℕ) → n ≡ h.number → order' ≡ filter (λ k. not (k.0 == n)) order → hs' ≡ remove hs at → room' ≡ room → room_for_ended' ≡ room_for_ended → AreKept hs' order' room' room_for_ended' false
-kept_after {hs} at last h kept rising within is n n_is order_is hs_is room_is room_for_ended_is = record {
+pub kept_after : {hs hs' : List Held} {order order' : List (ℕ × Footprint)} {room_for_ended room_for_ended' : ℕ} {quiet : Bool} (at last : ℕ) (h : Held) → AreKept hs order room_for_ended quiet → AreRising 0 last (numbers hs) → slice_get hs at ≡ Some h →
+    (n : ℕ) → n ≡ h.number → order' ≡ filter (λ k. not (k.0 == n)) order → hs' ≡ remove hs at → room_for_ended' ≡ room_for_ended → AreKept hs' order' room_for_ended' false
+kept_after {hs} at last h kept rising there n n_is order_is hs_is room_for_ended_is = record {
   ordered =
       order_is ∙ (λ i. filter (λ k. not (k.0 == n_is i)) (kept.ordered i))
-      ∙ order_ends 0 last hs at h rising (slice_get_read hs (length hs) at h refl within is) ∙ ap (map print_of) (sym hs_is);
-  reserved = subst (λ m. 256 ≤ m) (sym room_is) kept.reserved;
+      ∙ order_ends 0 last hs at h rising there ∙ ap (map print_of) (sym hs_is);
   reserved_for_ended = subst (λ m. 256 ≤ m) (sym room_for_ended_is) kept.reserved_for_ended;
   nothing_to_send = not_noted;
 }
@@ -201,36 +199,33 @@ fence_some [] e = absurd cc
 fence_some (h ∷ hs) e = omega arith
 
 -- ---- the call that an index finds
-pub record IsAt (hs : List Held) (at n : ℕ) (row h : Held) : Type 0 where
-  pub there : slice_get hs at ≡ Some row
-  pub row_is : row ≡ h
-  pub number : row.number ≡ n
+pub record IsAt (hs : List Held) (at n : ℕ) (h : Held) : Type 0 where
+  pub there : slice_get hs at ≡ Some h
+  pub number : h.number ≡ n
 
-pub is_at : (hs hs1 : List Held) (at n : ℕ) (row h : Held) → hs1 ≡ hs → slice_get hs1 at ≡ held_at n hs1 → held_at n hs ≡ Some h → row ≡ get_or hs at row → IsAt hs at n row h
-is_at hs hs1 at n row h same found e read =
-    let there : slice_get hs at ≡ Some h = ap (λ xs. slice_get xs at) (sym same) ∙ found ∙ ap (held_at n) same ∙ e in
-    let row_is : row ≡ h = read ∙ get_or_from_slice_get hs at h row there in
-    record {
-      there = there ∙ ap (λ x. Some x) (sym row_is);
-      row_is = row_is;
-      number = ap (λ (x : Held). x.number) row_is ∙ eqb_is h.number n (each_found (λ (x : Held). Unit {0}) (λ (x : Held). x.number == n) hs h (always hs) e).1;
-    }
+pub is_at : (hs : List Held) (at n : ℕ) (h : Held) → slice_get hs at ≡ held_at n hs → held_at n hs ≡ Some h → IsAt hs at n h
+is_at hs at n h found e = record {
+  there = found ∙ e;
+  number = eqb_is h.number n (each_found (λ (x : Held). Unit {0}) (λ (x : Held). x.number == n) hs h (always hs) e).1;
+}
   where
     always : (xs : List Held) → Each (λ (x : Held). Unit {0}) xs
     always [] = tt
     always (x ∷ xs) = (tt, always xs)
 
-pub kept_set : {hs : List Held} {order : List (ℕ × Footprint)} {room room_for_ended : ℕ} (at : ℕ) (row row' : Held) → AreKept hs order room room_for_ended false → slice_get hs at ≡ Some row → print_of row' ≡ print_of row →
-    AreKept (set hs at row') order room room_for_ended false
-kept_set {hs} at row row' kept there same = record {
-  ordered = kept.ordered ∙ sym (prints_set hs at row row' there same);
-  reserved = kept.reserved;
+one_of : (x y : Held) → ◌≡◌ {A = Option Held} (Some x) (Some y) → x ≡ y
+one_of x y k = cc
+
+-- what holds of a call holds of what its index has
+pub at_only : (P : Held → Type 0) (hs : List Held) (at : ℕ) (h : Held) → slice_get hs at ≡ Some h → P h → (g : Held) → slice_get hs at ≡ Some g → P g
+at_only P hs at h there p g here = let same : h ≡ g = one_of h g (sym there ∙ here) in subst P same p
+
+pub kept_sent : {hs hs' : List Held} {order : List (ℕ × Footprint)} {room_for_ended : ℕ} {quiet : Bool} (at : ℕ) (row : Held) → AreKept hs order room_for_ended quiet → slice_get hs at ≡ Some row → hs' ≡ set hs at (with_one_sent row) → AreKept hs' order room_for_ended false
+kept_sent {hs} at row kept there is = record {
+  ordered = kept.ordered ∙ sym (ap (map print_of) is ∙ prints_set hs at row (with_one_sent row) there refl);
   reserved_for_ended = kept.reserved_for_ended;
   nothing_to_send = not_noted;
 }
-
-pub print_came : (i : ℕ) (e : Ending) (row row' : Held) → row' ≡ with_came i e row → print_of row' ≡ print_of row
-print_came i e row row' is = ap print_of is
 
 -- what comes of a part changes nothing of what may be sent
 came_may : (ks : List (ℕ × Footprint)) (i : ℕ) (e : Ending) (row : Held) → may_send ks (with_came i e row) ≡ may_send ks row
@@ -253,14 +248,13 @@ came_found ks (x ∷ hs) (suc at) i e row there = go (may_send ks x) (came_found
     go true rest = refl
     go false rest = rest
 
-pub kept_came : {hs : List Held} {order : List (ℕ × Footprint)} {room room_for_ended : ℕ} {quiet : Bool} (at i : ℕ) (e : Ending) (row row' : Held) → AreKept hs order room room_for_ended quiet → slice_get hs at ≡ Some row → row' ≡ with_came i e row →
-    AreKept (set hs at row') order room room_for_ended quiet
-kept_came {hs} at i e row row' kept there is = record {
-  ordered = kept.ordered ∙ sym (prints_set hs at row row' there (print_came i e row row' is));
-  reserved = kept.reserved;
+pub kept_came : {hs hs' : List Held} {order : List (ℕ × Footprint)} {room_for_ended : ℕ} {quiet : Bool} (at i : ℕ) (e : Ending) (row : Held) → AreKept hs order room_for_ended quiet → slice_get hs at ≡ Some row → hs' ≡ set hs at (with_came i e row) →
+    AreKept hs' order room_for_ended quiet
+kept_came {hs} at i e row kept there is = record {
+  ordered = kept.ordered ∙ sym (ap (map print_of) is ∙ prints_set hs at row (with_came i e row) there refl);
   reserved_for_ended = kept.reserved_for_ended;
   nothing_to_send = λ noted.
-      ap (λ (x : Held). part_to_send (set hs at x)) is
+      ap part_to_send is
       ∙ ap (λ ks. option_map next_part (find (may_send ks) (set hs at (with_came i e row)))) (prints_set hs at row (with_came i e row) there refl)
       ∙ came_found (map print_of hs) hs at i e row there ∙ kept.nothing_to_send noted;
 }
@@ -277,15 +271,14 @@ no_fence_at hs at row e there = is_false (is_fence row.call) (sym (ap (option_ma
     is_false : (b : Bool) → ◌≡◌ {A = Option Bool} (Some b) (Some false) → b ≡ false
     is_false b k = cc
 
-pub stays_so : (c : Holding) (hs : List Held) (at : ℕ) (row : Held) → hs ≡ c.held → option_map (λ (h : Held). is_fence h.call) (slice_get c.held at) ≡ Some false → row ≡ get_or hs at row → is_some (every row.came) ≡ false →
+pub stays_so : (c : Holding) (hs : List Held) (at : ℕ) (row : Held) → hs ≡ c.held → option_map (λ (h : Held). is_fence h.call) (slice_get c.held at) ≡ Some false → slice_get hs at ≡ Some row → is_some (every row.came) ≡ false →
     ((i : ℕ) (g : Held) → slice_get c.held i ≡ Some g → (i == at) ≡ false → Goes g) → c ≡ with_ends c
 stays_so c hs at row same there read over others =
-    let within : at < length c.held = there_within c.held at there in
-    let found : slice_get c.held at ≡ Some row = slice_get_read c.held (length c.held) at row refl within (read ∙ ap (λ xs. get_or xs at row) same) in
+    let found : slice_get c.held at ≡ Some row = ap (λ xs. slice_get xs at) (sym same) ∙ read in
     sym (no_ends c.held c.ended (all_still c.held at row found (still_goes row over) others))
 
 pub ends_one : (c : Holding) (hs hs' : List Held) (es es' : List Ended) (e : Ended) (at : ℕ) (first row : Held) → record { held = hs; ended = map finished_of es } ≡ c → option_map (λ (h : Held). is_fence h.call) (slice_get c.held at) ≡ Some false →
-    first ≡ get_or hs at first → is_some (every first.came) ≡ true → row ≡ get_or hs at row → ((i : ℕ) (g : Held) → slice_get c.held i ≡ Some g → (i == at) ≡ false → Goes g) →
+    slice_get hs at ≡ Some first → is_some (every first.came) ≡ true → slice_get hs at ≡ Some row → ((i : ℕ) (g : Held) → slice_get c.held i ≡ Some g → (i == at) ≡ false → Goes g) →
     IfSome (every row.came) (λ endings. finished_of e ≡ ended_with row endings) → hs' ≡ remove hs at → es' ≡ es ++ e ∷ [] → record { held = hs'; ended = map finished_of es' } ≡ with_ends c
 ends_one c hs hs' es es' e at first row is there read_first over read others ends hs_is es_is =
     subst (λ (z : Holding). record { held = hs'; ended = map finished_of es' } ≡ with_ends z) is (go (every row.came) refl (subst (λ (x : Held). is_some (every x.came) ≡ true) same over) ends)
@@ -293,17 +286,11 @@ ends_one c hs hs' es es' e at first row is there read_first over read others end
     there' : option_map (λ (h : Held). is_fence h.call) (slice_get hs at) ≡ Some false
     there' = ap (λ (z : Holding). option_map (λ (h : Held). is_fence h.call) (slice_get z.held at)) is ∙ there
 
-    within : at < length hs
-    within = there_within hs at there'
-
-    found : slice_get hs at ≡ Some row
-    found = slice_get_read hs (length hs) at row refl within read
-
     one : (x y : Held) → ◌≡◌ {A = Option Held} (Some x) (Some y) → x ≡ y
     one x y k = cc
 
     same : first ≡ row
-    same = one first row (sym (slice_get_read hs (length hs) at first refl within read_first) ∙ found)
+    same = one first row (sym read_first ∙ read)
 
     others' : (i : ℕ) (g : Held) → slice_get hs i ≡ Some g → (i == at) ≡ false → Goes g
     others' i g k ne = others i g (ap (λ (z : Holding). slice_get z.held i) (sym is) ∙ k) ne
@@ -312,21 +299,21 @@ ends_one c hs hs' es es' e at first row is there read_first over read others end
         record { held = hs'; ended = map finished_of es' } ≡ with_ends (record { held = hs; ended = map finished_of es })
     go None k some f = absurd cc
     go (Some endings) k some f =
-        let ended : ended_of row ≡ Some (ended_with row endings) = ends_so row endings (no_fence_at hs at row there' found) k in
+        let ended : ended_of row ≡ Some (ended_with row endings) = ends_so row endings (no_fence_at hs at row there' read) k in
         λ i. record {
-          held = (hs_is ∙ sym (one_gone hs at row (ended_with row endings) found ended others')) i;
-          ended = (ap (map finished_of) es_is ∙ map-append finished_of es (e ∷ []) ∙ ap (λ x. map finished_of es ++ x ∷ []) f ∙ ap (λ xs. map finished_of es ++ xs) (sym (one_ends hs at row (ended_with row endings) found ended others'))) i;
+          held = (hs_is ∙ sym (one_gone hs at row (ended_with row endings) read ended others')) i;
+          ended = (ap (map finished_of) es_is ∙ map-append finished_of es (e ∷ []) ∙ ap (λ x. map finished_of es ++ x ∷ []) f ∙ ap (λ xs. map finished_of es ++ xs) (sym (one_ends hs at row (ended_with row endings) read ended others'))) i;
         }
 
 -- ---- something comes of a part
-pub came_so : (c c' : Holding) (hs : List Held) (es : List Ended) (at : ℕ) (row row' h : Held) (p : Part) (e : Ending) (last : ℕ) → record { held = hs; ended = map finished_of es } ≡ c → AreRising 0 last (numbers hs) → IsAt hs at p.call.0 row h → row' ≡ with_came p.part e row →
-    c' ≡ with_ends (record { held = set hs at row'; ended = map finished_of es }) → c' ≡ after_coming p e c
-came_so c c' hs es at row row' h p e last is rising w row_is c_is =
-    c_is ∙ ap with_ends (λ i. record { held = (ap (set hs at) row_is ∙ set_changed (with_came p.part e) 0 last hs at row rising w.there ∙ ap (λ n. changed n (with_came p.part e) hs) w.number) i; ended = map finished_of es })
+pub came_so : (c c' : Holding) (hs hs' : List Held) (es : List Ended) (at : ℕ) (h : Held) (p : Part) (e : Ending) (last : ℕ) → record { held = hs; ended = map finished_of es } ≡ c → AreRising 0 last (numbers hs) → IsAt hs at p.call.0 h → hs' ≡ set hs at (with_came p.part e h) →
+    c' ≡ with_ends (record { held = hs'; ended = map finished_of es }) → c' ≡ after_coming p e c
+came_so c c' hs hs' es at h p e last is rising w hs_is c_is =
+    c_is ∙ ap with_ends (λ i. record { held = (hs_is ∙ set_changed (with_came p.part e) 0 last hs at h rising w.there ∙ ap (λ n. changed n (with_came p.part e) hs) w.number) i; ended = map finished_of es })
     ∙ ap (after_coming p e) is
 
-pub sent_so : (hs : List Held) (at n : ℕ) (row row' h : Held) (last : ℕ) → AreRising 0 last (numbers hs) → IsAt hs at n row h → row' ≡ with_one_sent row → set hs at row' ≡ changed n with_one_sent hs
-sent_so hs at n row row' h last rising w row_is = ap (set hs at) row_is ∙ set_changed with_one_sent 0 last hs at row rising w.there ∙ ap (λ n. changed n with_one_sent hs) w.number
+pub sent_so : (hs hs' : List Held) (at n : ℕ) (h : Held) (last : ℕ) → AreRising 0 last (numbers hs) → IsAt hs at n h → hs' ≡ set hs at (with_one_sent h) → hs' ≡ changed n with_one_sent hs
+sent_so hs hs' at n h last rising w hs_is = hs_is ∙ set_changed with_one_sent 0 last hs at h rising w.there ∙ ap (λ n. changed n with_one_sent hs) w.number
 
 pub some_held : (n : ℕ) (hs : List Held) → option_map has_unsent (held_at n hs) ≡ Some true → (h : Held) × (held_at n hs ≡ Some h)
 some_held n hs e = go (held_at n hs) refl e
@@ -336,15 +323,10 @@ some_held n hs e = go (held_at n hs) refl e
     go (Some h) k z = (h, k)
 
 -- ---- requests
-pub request_here : (hs hs1 : List Held) (at : ℕ) (p : Part) (row : Held) → hs1 ≡ hs → at < length hs1 → slice_get hs1 at ≡ held_at p.call.0 hs1 → row ≡ get_or hs at row → request_at hs p ≡ slice_get (cut row.call) p.part
-request_here hs hs1 at p row same within found read =
-    let there : slice_get hs at ≡ Some row = slice_get_read hs (length hs) at row refl (subst (λ (xs : List Held). at < length xs) same within) read in
-    ap (option_and_then (λ (h : Held). slice_get (cut h.call) p.part)) (sym (ap (λ xs. slice_get xs at) (sym same) ∙ found ∙ ap (held_at p.call.0) same) ∙ there)
+pub request_here : (hs : List Held) (at : ℕ) (p : Part) (row : Held) → slice_get hs at ≡ held_at p.call.0 hs → slice_get hs at ≡ Some row → request_at hs p ≡ slice_get (cut row.call) p.part
+request_here hs at p row found there = ap (option_and_then (λ (h : Held). slice_get (cut h.call) p.part)) (sym found ∙ there)
 
 pub some_within : {X : Type 0} (xs : List X) (i : ℕ) → is_some (slice_get xs i) ≡ true → i < length xs
 some_within [] i e = absurd cc
 some_within (x ∷ xs) zero e = omega arith
 some_within (x ∷ xs) (suc i) e = let less : i < length xs = some_within xs i e in omega arith
-
-pub print_sent : (row row' : Held) → row' ≡ with_one_sent row → print_of row' ≡ print_of row
-print_sent row row' is = ap print_of is

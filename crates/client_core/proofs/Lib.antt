@@ -5,6 +5,7 @@ pub mod Ending
 pub mod Naming
 pub mod RowLemmas
 pub mod CallLemmas
+pub mod EntryLemmas
 pub mod Edits
 pub mod Laws
 pub mod Sounds

@@ -28,10 +28,9 @@ pub record IsRow (k : Call) (gather : List PartOutcome) (parts sent waiting : �
 abbrev pub finished_of : Ended → Finished
 finished_of e = record { number = e.no.0; answer = e.answer; call = e.call }
 
--- what holds of the rows, their order, the room and the note that nothing is to be sent, at every moment
-pub record AreKept (held : List Held) (order : List (ℕ × Footprint)) (room room_for_ended : ℕ) (quiet : Bool) : Type 0 where
+-- what holds of the calls, their order, the room and the note that nothing is to be sent, at every moment
+pub record AreKept (held : List Held) (order : List (ℕ × Footprint)) (room_for_ended : ℕ) (quiet : Bool) : Type 0 where
   pub ordered : order ≡ map print_of held
-  -- so taking a call and ending one takes no memory
-  pub reserved : 256 ≤ room
+  -- so ending a call takes no memory
   pub reserved_for_ended : 256 ≤ room_for_ended
   pub nothing_to_send : quiet ≡ true → part_to_send held ≡ None

@@ -16,6 +16,7 @@ ghost use Rattle.client_core.specs.Valid.{AreRising};
 
 use crate::ended::Ended;
 use crate::row::CallRow;
+use crate::rows::Rows;
 use cl_types::call::Call;
 use cl_types::items::NoMemory;
 use cl_types::limits::HELD_CALLS;
@@ -30,8 +31,8 @@ use std::marker::Model;
 /// The calls that a client holds, at most `HELD_CALLS`.
 #[derive(Drop)]
 pub struct Calls {
-    // Those that have not ended, in order of issue. There is room for `HELD_CALLS`.
-    rows: Vec<CallRow>,
+    // Those that have not ended, in order of issue.
+    rows: Rows,
     // The others, as they ended. There is room for `HELD_CALLS`.
     ended: VecDeque<Ended>,
     // Which of those that have not ended may go.
@@ -42,7 +43,7 @@ pub struct Calls {
 }
 
 impl Model for Calls {
-    ghost use Rattle.std.specs.Prelude.{map, vec_capacity};
+    ghost use Rattle.std.specs.Prelude.{map};
     ghost use Rattle.std.specs.VecDeque.{deque_capacity};
     ghost use Rattle.client_core.specs.Held.{Holding};
 
@@ -50,10 +51,9 @@ impl Model for Calls {
 
     ghost use Rattle.client_core.specs.Rows.{finished_of, AreKept};
 
-    ghost view = { λ c. record { held = c.rows.items; ended = map finished_of c.ended.items } };
+    ghost view = { λ c. record { held = c.rows; ended = map finished_of c.ended.items } };
 
-    ghost invariant = { λ c. AreKept c.rows.items c.order
-        (vec_capacity c.rows) (deque_capacity c.ended) c.quiet };
+    ghost invariant = { λ c. AreKept c.rows c.order (deque_capacity c.ended) c.quiet };
 }
 
 impl Calls {
@@ -62,7 +62,7 @@ impl Calls {
         ensures { IfOk result (λ calls. calls ≡ record { held = []; ended = [] }) }
     {
         Ok(Calls {
-            rows: Vec::with_capacity(alloc, HELD_CALLS as usize)?,
+            rows: Rows::create(alloc)?,
             ended: VecDeque::with_capacity(alloc, HELD_CALLS as usize)?,
             order: Order::create(alloc)?,
             quiet: false,
@@ -86,24 +86,24 @@ impl Calls {
     {
         self.quiet = false;
         self.order.add(no, &call);
-        self.rows.push_reserved(CallRow::create(no, call));
+        self.rows.push(CallRow::create(no, call));
     }
 
     /// Whether the call has not ended and may go.
     pub fn is_ready(&self, no: CallNo) -> bool
         ensures { result ≡ ready_in (map print_of self.now.held) no.0 }
     {
-        is_held(&self.rows, no) && self.order.ready(no)
+        self.rows.has(no) && self.order.ready(no)
     }
 
     /// The Fence that is the first call that has not ended.
     pub fn first_fence(&self) -> Option<CallNo>
         ensures { result ≡ fence_first_in self.now.held }
     {
-        match self.rows.first() {
-            None => None,
-            Some(row) => fence_number(row),
+        if self.rows.len() == 0 {
+            return None;
         }
+        fence_number(self.rows.row(0))
     }
 
     /// The first part that may be sent.
@@ -129,7 +129,8 @@ impl Calls {
         requires { is_some (request_at self.now.held part) ≡ true }
         ensures { request_at self.now.held part ≡ Some (request_of result) }
     {
-        self.rows[row_at(&self.rows, part.call)].part(part.part)
+        let at = self.rows.place(part.call);
+        self.rows.row(at).part(part.part)
     }
 
     /// Takes that the first unsent part of a call was sent.
@@ -140,9 +141,8 @@ impl Calls {
         ensures ended { self.new.ended ≡ self.old.ended }
     {
         self.quiet = false;
-        let at = row_at(&self.rows, no);
-        let row = &mut self.rows[at];
-        row.note_sent();
+        let at = self.rows.place(no);
+        self.rows.note_sent(at);
     }
 
     /// Takes the reply to a part, and tells whether its call has ended by it.
@@ -154,9 +154,8 @@ impl Calls {
         ensures calls { self.new ≡ after_coming part (Replied (reply_of reply.now)) self.old }
         ensures ends { result ≡ nat_lt (length self.old.ended) (length self.new.ended) }
     {
-        let at = row_at(&self.rows, part.call);
-        let row = &mut self.rows[at];
-        row.take(part.part, reply);
+        let at = self.rows.place(part.call);
+        self.rows.take(at, part.part, reply);
         self.end_where_over(at)
     }
 
@@ -166,9 +165,8 @@ impl Calls {
         requires awaited { IsAwaited part self.old.held }
         ensures { self.new ≡ after_coming part (GivenUp first_sent now) self.old }
     {
-        let at = row_at(&self.rows, part.call);
-        let row = &mut self.rows[at];
-        row.give_up(part.part, first_sent, now);
+        let at = self.rows.place(part.call);
+        self.rows.give_up(at, part.part, first_sent, now);
         self.end_where_over(at);
     }
 
@@ -205,7 +203,7 @@ impl Calls {
         ensures calls { self.new ≡ with_ends self.old }
         ensures ends { result ≡ nat_lt (length self.old.ended) (length self.new.ended) }
     {
-        if !self.rows[at].is_over() {
+        if !self.rows.row(at).is_over() {
             return false;
         }
         self.quiet = false;
@@ -225,28 +223,6 @@ impl Calls {
     }
 }
 
-/// Whether a call of this number is among these.
-fn is_held(rows: &[CallRow], no: CallNo) -> bool
-    ensures { result ≡ list_any (λ h. h.number == no.0) rows.now }
-{
-    rows.iter().any(|row| row.no().0 == no.0)
-}
-
-/// Where the call of this number stands, the first of that number.
-fn row_at(rows: &[CallRow], no: CallNo) -> usize
-    requires { is_some (held_at no.0 rows.now) ≡ true }
-    ensures within { result < length rows.now }
-    ensures there { slice_get rows.now result ≡ held_at no.0 rows.now }
-{
-    for i in 0..rows.len() {
-        let row = &rows[i];
-        if row.no().0 == no.0 {
-            return i;
-        }
-    }
-    unreachable!()
-}
-
 /// The number of the call, where it is a Fence.
 fn fence_number(row: &CallRow) -> Option<CallNo>
     ensures { result ≡ fence_first_in (row.now ∷ []) }
@@ -263,12 +239,12 @@ fn may_send_now(row: &CallRow, order: &Order) -> bool
 }
 
 /// The first part that may be sent.
-fn first_to_send(rows: &[CallRow], order: &Order) -> Option<Part>
+fn first_to_send(rows: &Rows, order: &Order) -> Option<Part>
     requires { order.now ≡ map print_of rows.now }
     ensures { result ≡ part_to_send rows.now }
 {
     for i in 0..rows.len() {
-        let row = &rows[i];
+        let row = rows.row(i);
         if may_send_now(row, order) {
             return Some(row.next_part());
         }

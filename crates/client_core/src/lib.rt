@@ -20,6 +20,7 @@ mod faults;
 mod frames;
 mod ids;
 mod row;
+mod rows;
 
 pub use answers::{Heard, Poll};
 pub use cl_types::frame::IssueFault;

@@ -1,4 +1,4 @@
-use Rattle.std.proofs.Common.{◌≡◌, ◌∙◌, ap, None}
+use Rattle.std.proofs.Common.{◌∙◌, ap}
 use Rattle.client_core.specs.Held.{Holding, part_to_send}
 use Rattle.client_core.proofs.Edits.{kept_quiet}
 use Rattle.client_core.proofs.calls.Calls.note_quiet.Goals as goal

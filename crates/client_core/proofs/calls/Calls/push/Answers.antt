@@ -5,4 +5,4 @@ use Rattle.client_core.proofs.calls.Calls.push.Goals as goal
 
 pub add-requires-clause-later : goal.add-requires-clause-later
 add-requires-clause-later c =
-    subst (All (λ k. k.0 < c.args.no.0)) (sym c.self.invariant.ordered) (prints_below c.args.no.0 c.self.inside.rows.items (rw (← c.self.view_is) at c.requires.later))
+    subst (All (λ k. k.0 < c.args.no.0)) (sym c.self.invariant.ordered) (prints_below c.args.no.0 c.self.inside.rows (rw (← c.self.view_is) at c.requires.later))
