@@ -1,16 +1,19 @@
 -- Where a range fits, by what holds of each page and of each bucket.
-use Rattle.std.proofs.Common.{◌≡◌, ℕ, zero, suc, ◌+◌, ◌<◌, ◌≤◌, ◌==◌, ◌&&◌, leb, Bool, true, false, not, cond, length, is_some, refl, sym, ap, ◌∙◌, arith}
+use Rattle.std.proofs.Common.{◌≡◌, inl, inr, ℕ, zero, suc, ◌+◌, ◌-◌, ◌<◌, ◌≤◌, ◌==◌, ◌&&◌, leb, Bool, true, false, not, cond, length, is_some, nat_lt, refl, sym, ap, ◌∙◌, arith}
 use Rattle.std.specs.List.{list_all, range_with_len}
 use Rattle.std.specs.FinMap.Entries.{is_some-find}
+use Rattle.std.proofs.lemmas.Bool.{cases_Bool}
 use Rattle.std.proofs.lemmas.Bool.Decides.{nat_tests}
 use Rattle.std.proofs.lemmas.List.Folds.{list_all_at}
 use Rattle.std.proofs.lemmas.List.FromFn.{length-range_with_len, length-map-range_with_len, get_or-range_with_len, get_or-map-range_with_len, sum_by-map-range_with_len_more}
 use Rattle.std.proofs.lemmas.List.Sums.{sum_by-cons}
-use Rattle.cl_types.specs.Places.{Place, place_cmp, home_of, homes_at}
-use Rattle.hash_buckets.specs.PageMap.{PageMap, entry_of, load}
+use Rattle.cl_types.specs.Places.{Place, place_cmp, home_of, homes_at, is_bucket_count}
+use Rattle.hash_buckets.specs.PageMap.{PageMap, IsValid, entry_of, load}
 use Rattle.cl_types.specs.Ranges.{is_page_count}
 use Rattle.flat_model.specs.Rows.{keys}
 use Rattle.flat_model.specs.State.{fits, is_mapped, places_of}
+use Rattle.flat_model.proofs.BucketLemmas.{home_below}
+use Rattle.range_alloc.specs.Joins.{can_join}
 
 -- a page is among the keys of a table where the table says something of it
 mapped_key : (table : PageMap) (place : Place) → is_mapped (keys table.entries) place ≡ is_some (entry_of table place)
@@ -55,6 +58,13 @@ all_homes test first (suc n) passes = ap (λ b. b && list_all test (range_with_l
 all_four : (a b c d : Bool) → a ≡ true → b ≡ true → c ≡ true → d ≡ true → (a && b && c && d) ≡ true
 all_four a b c d p q r s = grind arith
 
+-- a page of the space that is free and can't join has a home with no room
+pub third : (a b c : Bool) → a ≡ true → b ≡ false → (a && not b && c) ≡ false → c ≡ false
+third a b c p q r = grind arith
+
+pub at_least : (m : ℕ) → nat_lt m 4 ≡ false → 4 ≤ m
+at_least m is = grind (arith, nat_tests)
+
 module _ (table : PageMap) (space start n : ℕ) where
   -- what has to hold of each page and of each bucket
   pub record Fits : Type 0 where
@@ -97,3 +107,28 @@ module _ (table : PageMap) (space start n : ℕ) where
       let fails : list_all test (range_with_len 0 table.buckets) ≡ false =
       list_all_at test (range_with_len 0 table.buckets) home 0 inside (ap test (get_or-range_with_len 0 table.buckets home 0 below ∙ same) ∙ here) in
       grind arith
+
+  -- with the pages before it in the home of a page, that home has no room for the page
+  pub home_full : (i : ℕ) → i < n → is_bucket_count table.buckets ≡ true
+      → 4 ≤ load table (home_of table.buckets (space, start + i)) + homes_at table.buckets (home_of table.buckets (space, start + i)) (places_of space start i)
+      → fits table.buckets (keys table.entries) space start n ≡ false
+  home_full i below counted full =
+      let home : ℕ = home_of table.buckets (space, start + i) in
+      let one : one_at table.buckets home (space, start + i) ≡ 1 = adds_one home in
+      let longer : i + 1 + (n - (i + 1)) ≡ n = omega arith in
+      let more : homes_at table.buckets home (places_of space start (i + 1 + (n - (i + 1)))) ≡ homes_at table.buckets home (places_of space start n) = ap (λ k. homes_at table.buckets home (places_of space start k)) longer in
+      bucket_full home (home_below table.buckets (space, start + i) counted)
+      (omega (arith, full, one, homes_more table.buckets home space start i, homes_rise table.buckets home space start (i + 1) (n - (i + 1)), more))
+    where
+      adds_one : (h : ℕ) → ◌≡◌ {A = ℕ} (cond (h == h) 1 0) 1
+      adds_one h = grind (arith, nat_tests)
+
+  -- one of its pages can't join
+  pub page_blocked : (i : ℕ) → i < n → IsValid table → can_join table space (start + i) ≡ false → fits table.buckets (keys table.entries) space start n ≡ false
+  page_blocked i below valid cannot = elim (cases_Bool (nat_lt (start + i) 65536)) [
+    | inr past ↦ too_far (let beyond : 65536 ≤ start + i = grind (arith, nat_tests) in omega (arith, beyond, below))
+    | inl inside ↦ elim (cases_Bool (is_some (entry_of table (space, start + i)))) [
+      | inl mapped ↦ page_mapped i below mapped
+      | inr free ↦ home_full i below valid.counted (let full = at_least _ (third _ _ _ inside free cannot) in omega (arith, full))
+    ]
+  ]

@@ -1,6 +1,7 @@
 pub mod Among
 pub mod Entries
 pub mod Fitting
+pub mod Skips
 pub mod Window
 pub mod Ranges
 pub mod Frames

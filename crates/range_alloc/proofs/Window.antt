@@ -1,5 +1,5 @@
 -- The pages that the search has mapped: what the table says with them, and what they show of the range that is tried.
-use Rattle.std.proofs.Common.{◌≡◌, ◌≢◌, inl, inr, ℕ, suc, ◌+◌, ◌-◌, ◌<◌, ◌≤◌, ◌==◌, ◌&&◌, Bool, true, false, cond, not, Option, Some, None, is_some, is_none, nat_lt, refl, sym, ap, ◌∙◌, subst, arith}
+use Rattle.std.proofs.Common.{◌≡◌, ◌≢◌, inl, inr, ℕ, suc, ◌+◌, ◌-◌, ◌<◌, ◌≤◌, ◌&&◌, Bool, true, false, cond, Option, Some, None, is_some, is_none, nat_lt, refl, sym, ap, ◌∙◌, subst, arith}
 use Rattle.std.proofs.lemmas.Bool.{cases_Bool, cases_lt}
 use Rattle.std.proofs.lemmas.Bool.Decides.{nat_tests}
 use Rattle.cl_types.specs.declared.call.Perm.{Perm}
@@ -8,15 +8,15 @@ use Rattle.cl_types.specs.Places.{Place, home_of, homes_at}
 use Rattle.cl_types.proofs.PlaceLemmas.{same_place, split_place}
 use Rattle.hash_buckets.specs.PageMap.{PageMap, IsValid, entry_of, load, with_entry, without_entry}
 use Rattle.hash_buckets.proofs.Loads.{homes_at-put, homes_at-without_page}
-use Rattle.flat_model.proofs.BucketLemmas.{home_below}
 use Rattle.flat_model.specs.Rows.{keys}
 use Rattle.flat_model.specs.State.{fits, places_of}
 use Rattle.flat_model.specs.Step.{is_among}
-use Rattle.range_alloc.specs.Joins.{can_join}
+use Rattle.range_alloc.specs.Joins.{SkipsTo, can_join}
 use Rattle.range_alloc.specs.Ranges.{new_page, with_range}
 use Rattle.range_alloc.proofs.Among.{among-page, among-none, among-rest, among-more}
 use Rattle.range_alloc.proofs.Entries.{entry-with, entry-without, entry-with_range, page_in, same_table, sorted_table, sorted-with_range}
-use Rattle.range_alloc.proofs.Fitting.{one_at, homes_first, homes_more, homes_rise, fits-true, too_far, page_mapped, bucket_full}
+use Rattle.range_alloc.proofs.Skips.{skips_none}
+use Rattle.range_alloc.proofs.Fitting.{one_at, homes_first, homes_more, fits-true, too_far, page_mapped, home_full, third, at_least}
 
 -- the table is the first one with n new pages from start on
 pub record IsWindow (first table : PageMap) (space : ℕ) (perm : Perm) (start n : ℕ) : Type 0 where
@@ -146,20 +146,49 @@ module _ (first table : PageMap) (space : ℕ) (perm : Perm) (start n : ℕ) (wi
           let all : homes_at first.buckets home (places_of space start n) ≡ homes_at first.buckets home (places_of space start (suc (n - 1))) = ap (λ k. homes_at first.buckets home (places_of space start k)) fewer in
           omega (arith, same, window.loads home, all, homes_first first.buckets home space start (n - 1))
 
-  -- with no page it moves on by one
-  window_moved : n ≡ 0 → IsWindow first table space perm (start + 1) (n - 1)
-  window_moved none =
+  -- with no page it goes to any other start
+  pub window_goes : (other : ℕ) → n ≡ 0 → IsWindow first table space perm other n
+  window_goes other none =
       let same : table ≡ first = window_is_first none in
-      let zero_left : 0 ≡ n - 1 = omega arith in
-      subst (λ k. IsWindow first table space perm (start + 1) k) zero_left (subst (λ t. IsWindow first t space perm (start + 1) 0) (sym same) (window_empty first space perm (start + 1) window.from_valid))
+      subst (λ k. IsWindow first table space perm other k) (sym none) (subst (λ t. IsWindow first t space perm other 0) (sym same) (window_empty first space perm other window.from_valid))
+
+  -- it stays, or with no page it goes to another start
+  pub window_to : (other : ℕ) → (0 < n → other ≡ start) → IsWindow first table space perm other n
+  window_to other stays = elim (cases_lt 0 n) [
+    | inl some ↦ subst (λ s. IsWindow first table space perm s n) (sym (stays some)) window
+    | inr none ↦ window_goes other (omega (arith, none))
+  ]
+
+  -- and where the starts in between fit nowhere in this table, they don't in the first
+  pub window_skips : (pages other : ℕ) → start ≤ 65536 → (0 < n → other ≡ start) → (n ≡ 0 → SkipsTo table space pages start other) → SkipsTo first space pages start other
+  window_skips pages other inside stays skips = elim (cases_lt 0 n) [
+    | inl some ↦ subst (λ s. SkipsTo first space pages start s) (sym (stays some)) (skips_none first space pages start inside)
+    | inr none ↦ let empty : n ≡ 0 = omega (arith, none) in subst (λ t. SkipsTo t space pages start other) (window_is_first empty) (skips empty)
+  ]
+
+  -- so it ends within the space
+  pub window_within : (other : ℕ) → start + n ≤ 65536 → other ≤ 65536 → (0 < n → other ≡ start) → other + n ≤ 65536
+  window_within other within inside stays = elim (cases_lt 0 n) [
+    | inl some ↦ let same : other ≡ start = stays some in omega (arith, same, within)
+    | inr none ↦ omega (arith, none, inside)
+  ]
 
   -- the first page leaves, where there is one
   pub window_next : (new : PageMap) (left : ℕ) → left ≡ n - 1 → (0 < n → new ≡ without_entry table (space, start)) → (n ≡ 0 → new ≡ table) → IsValid new
       → IsWindow first new space perm (start + 1) left
   window_next new left fewer leaves same valid = subst (λ k. IsWindow first new space perm (start + 1) k) (sym fewer) (elim (cases_lt 0 n) [
     | inl some ↦ window_left new some (leaves some) valid
-    | inr none ↦ let empty : n ≡ 0 = omega (arith, none) in subst (λ t. IsWindow first t space perm (start + 1) (n - 1)) (sym (same empty)) (window_moved empty)
+    | inr none ↦
+        let empty : n ≡ 0 = omega (arith, none) in
+        let still : n ≡ n - 1 = omega (arith, none) in
+        subst (λ t. IsWindow first t space perm (start + 1) (n - 1)) (sym (same empty)) (subst (λ k. IsWindow first table space perm (start + 1) k) still (window_goes (start + 1) empty))
   ])
+
+  -- its first page is mapped
+  pub window_mapped : 0 < n → is_some (entry_of table (space, start)) ≡ true
+  window_mapped some =
+      let here : is_among space start n (space, start) ≡ true = among-page space start n start (omega arith) (omega arith) in
+      ap is_some (window.says (space, start)) ∙ ap (λ b. is_some (cond b (Some (new_page perm 0)) (entry_of first (space, start)))) here
 
   -- the pages that joined fit
   pub window_fits : 1 ≤ start → start + n ≤ 65536 → fits first.buckets (keys first.entries) space start n ≡ true
@@ -178,7 +207,9 @@ module _ (first table : PageMap) (space : ℕ) (perm : Perm) (start n : ℕ) (wi
       | inl mapped ↦ page_mapped first space start pages n below (ap is_some (sym same) ∙ mapped)
       | inr free ↦
           let full : 4 ≤ load table (home_of table.buckets (space, start + n)) = at_least _ (third _ _ _ inside free cannot) in
-          blocked full
+          let here : home_of table.buckets (space, start + n) ≡ home_of first.buckets (space, start + n) = ap (λ b. home_of b (space, start + n)) window.buckets in
+          let loaded : load table (home_of table.buckets (space, start + n)) ≡ load table (home_of first.buckets (space, start + n)) = ap (load table) here in
+          home_full first space start pages n below window.from_valid.counted (omega (arith, full, loaded, window.loads (home_of first.buckets (space, start + n))))
     ]
   ]
     where
@@ -187,28 +218,6 @@ module _ (first table : PageMap) (space : ℕ) (perm : Perm) (start n : ℕ) (wi
 
       same : entry_of table (space, start + n) ≡ entry_of first (space, start + n)
       same = window.says (space, start + n) ∙ ap (λ b. cond b (Some (new_page perm 0)) (entry_of first (space, start + n))) outside
-
-      third : (a b c : Bool) → a ≡ true → b ≡ false → (a && not b && c) ≡ false → c ≡ false
-      third a b c p q r = grind arith
-
-      at_least : (m : ℕ) → nat_lt m 4 ≡ false → 4 ≤ m
-      at_least m is = grind (arith, nat_tests)
-
-      home : ℕ
-      home = home_of first.buckets (space, start + n)
-
-      blocked : 4 ≤ load table (home_of table.buckets (space, start + n)) → fits first.buckets (keys first.entries) space start pages ≡ false
-      blocked full =
-          let here : home_of table.buckets (space, start + n) ≡ home = ap (λ b. home_of b (space, start + n)) window.buckets in
-          let loaded : load table (home_of table.buckets (space, start + n)) ≡ load table home = ap (load table) here in
-          let one : one_at first.buckets home (space, start + n) ≡ 1 = adds_one home in
-          let longer : n + 1 + (pages - (n + 1)) ≡ pages = omega arith in
-          let more : homes_at first.buckets home (places_of space start (n + 1 + (pages - (n + 1)))) ≡ homes_at first.buckets home (places_of space start pages) = ap (λ k. homes_at first.buckets home (places_of space start k)) longer in
-          bucket_full first space start pages home (home_below first.buckets (space, start + n) window.from_valid.counted)
-          (omega (arith, full, loaded, window.loads home, one, homes_more first.buckets home space start n, homes_rise first.buckets home space start (n + 1) (pages - (n + 1)), more))
-        where
-          adds_one : (h : ℕ) → ◌≡◌ {A = ℕ} (cond (h == h) 1 0) 1
-          adds_one h = grind (arith, nat_tests)
 
   -- the range that was sought: the first page of the window has the span
   pub window_range : (new : PageMap) → 0 < n → new ≡ with_entry table (space, start) (new_page perm n) → IsValid new → new ≡ with_range first space start n perm

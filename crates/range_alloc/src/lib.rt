@@ -9,10 +9,13 @@
 //! The caller forgets the pages in its cache, and refills the pool.
 //!
 //! A range fits at a start where its pages are pages of the space, none is mapped, and no bucket
-//! would come to hold more than four pages, the range's own among them. The search maps page after
-//! page from a start on, so that the table counts them. Where the next page can't join, no range
-//! that begins with the first of these pages fits, and that page leaves. So each page of the space
-//! joins and leaves once at most, however long the range is. No clause says how long a search takes.
+//! would come to hold more than four pages, the range's own among them. The search looks first for
+//! the least start whose pages can each join the table by themselves. It looks at the last page
+//! first: no range that reaches a page which can't join fits, so the search goes on behind that page,
+//! and looks at no page twice. From the start that it finds it maps page after page, so that the
+//! table counts them. Where the next page can't join, two pages of the range have one bucket, and the
+//! first page leaves. In a table of many buckets this is rare, so a search that fails maps nothing.
+//! No clause says how long a search takes.
 //!
 //! A contract sees a `RangeLists` as the list of the ranges of each space, in the order in which
 //! they were added, each by its start and its number of pages; and as how many there are, and how

@@ -7,7 +7,7 @@ ghost use Rattle.hash_buckets.specs.PageMap.{IsValid, entry_of, load, with_entry
 ghost use Rattle.cl_types.specs.Ranges.{is_page_count};
 ghost use Rattle.flat_model.specs.Rows.{keys};
 ghost use Rattle.flat_model.specs.State.{least};
-ghost use Rattle.range_alloc.specs.Joins.{can_join};
+ghost use Rattle.range_alloc.specs.Joins.{SkipsTo, can_join};
 ghost use Rattle.range_alloc.specs.Ranges.{AreRanges, frame_at, new_page, with_range};
 
 use cl_types::call::Perm;
@@ -32,7 +32,7 @@ pub fn map_range(table: &mut Table, space: Space16, pages: u16, perm: Perm) -> O
 {
     // Opens the table: what is valid of it is known from here on.
     table.buckets();
-    let mut start: u32 = 1;
+    let mut start: u32 = next_start(table, space, 1, 0, pages);
     // So many pages from `start` on have joined the table.
     let mut joined: u32 = 0;
     while start < SPACE_PAGES {
@@ -45,7 +45,7 @@ pub fn map_range(table: &mut Table, space: Space16, pages: u16, perm: Perm) -> O
             joined += 1;
         } else {
             joined = leave(table, space, start, joined);
-            start += 1;
+            start = next_start(table, space, start + 1, joined, pages);
         }
     }
     None
@@ -71,6 +71,57 @@ fn can_join(table: &Table, space: Space16, page: u32) -> bool
     }
     let vpn = Vpn(page as u16);
     table.peek(space, vpn).is_none() && table.room(home(space, vpn, table.buckets())) > 0
+}
+
+// The last of these pages that can't join.
+fn last_blocked(table: &Table, space: Space16, first: u32, end: u32) -> Option<u32>
+    ensures { IfSome result (λ page.
+        (first ≤ page) × (page < end) × (can_join table.now space.0 page ≡ false)) }
+{
+    let mut page = end;
+    while first < page {
+        page -= 1;
+        if !can_join(table, space, page) {
+            return Some(page);
+        }
+    }
+    None
+}
+
+// The first start from this one on whose pages can each join by themselves, or the end of the space.
+fn candidate(table: &Table, space: Space16, first: u32, pages: u16) -> u32
+    requires valid { IsValid table.now }
+    requires pages { IsTrue (is_page_count pages) }
+    requires within { first ≤ SPACE_PAGES }
+    ensures { SkipsTo table.now space.0 pages first result }
+{
+    let pages = u32::from(pages);
+    let mut start = first;
+    // The pages from `start` up to this one can join: they aren't looked at again.
+    let mut looked = first;
+    while start + pages <= SPACE_PAGES {
+        let Some(page) = last_blocked(table, space, looked, start + pages) else {
+            return start;
+        };
+        looked = start + pages;
+        start = page + 1;
+    }
+    SPACE_PAGES
+}
+
+// The next start to try: where no page of the window is left, starts with a page that can't join are passed over.
+fn next_start(table: &Table, space: Space16, first: u32, joined: u32, pages: u16) -> u32
+    requires valid { IsValid table.now }
+    requires pages { IsTrue (is_page_count pages) }
+    requires within { first ≤ SPACE_PAGES }
+    ensures onward { first ≤ result }
+    ensures stays { 0 < joined → result ≡ first }
+    ensures skips { joined ≡ 0 → SkipsTo table.now space.0 pages first result }
+{
+    if joined > 0 {
+        return first;
+    }
+    candidate(table, space, first, pages)
 }
 
 // Maps the page where it can join, and tells whether it could.
