@@ -2,6 +2,7 @@
 //! word it prints how many nanoseconds each took.
 #![tactic(auto)]
 
+mod allocs;
 mod exits;
 mod rows;
 mod versions;
@@ -14,9 +15,10 @@ fn main(rt: HostRuntime) -> io::Result<()> {
     let _program = args.next();
     if args.next().is_none() {
         return println!(rt;
-            "with any word: times an Exit, objects with versions, and a data frame"
+            "with any word: times Allocs, an Exit, objects with versions, and a data frame"
         );
     }
+    allocs::time(&rt)?;
     exits::time(&rt)?;
     versions::time(&rt)?;
     rows::time(&rt)

@@ -10,11 +10,12 @@
 //!
 //! A range fits at a start where its pages are pages of the space, none is mapped, and no bucket
 //! would come to hold more than four pages, the range's own among them. The search looks first for
-//! the least start whose pages can each join the table by themselves. It looks at the last page
-//! first: no range that reaches a page which can't join fits, so the search goes on behind that page,
-//! and looks at no page twice. From the start that it finds it maps page after page, so that the
-//! table counts them. Where the next page can't join, two pages of the range have one bucket, and the
-//! first page leaves. In a table of many buckets this is rare, so a search that fails maps nothing.
+//! the least start whose pages can each join the table by themselves. It looks at the first page of
+//! a range and then at the last ones: no range that reaches a page which can't join fits, so the
+//! search goes on behind that page, or behind the range that begins there, and looks at each free
+//! page once. From the start that it finds it maps page after page, so that the table counts them.
+//! Where the next page can't join, two pages of the range have one bucket, and the first page leaves.
+//! In a table of many buckets this is rare, so a search that fails maps nothing.
 //! No clause says how long a search takes.
 //!
 //! A contract sees a `RangeLists` as the list of the ranges of each space, in the order in which

@@ -1,6 +1,6 @@
 //! `map_range`: the search for the least start that fits, which maps the pages as it goes.
 
-ghost use Rattle.std.specs.Prelude.{true, false, ◌≡◌, ◌+◌, ◌-◌, ◌<◌, ◌≤◌, ◌==◌, IsTrue, IsSome, IfNone, IfSome, option_map, if◌then◌else◌};
+ghost use Rattle.std.specs.Prelude.{ℕ, true, false, ◌≡◌, ◌+◌, ◌-◌, ◌<◌, ◌≤◌, ◌==◌, IsTrue, IsSome, IfNone, IfSome, option_map, if◌then◌else◌};
 ghost use Rattle.cl_types.specs.declared.limits.TheConstants.{SPACE_PAGES};
 ghost use Rattle.cl_types.specs.Places.{Place, home_of};
 ghost use Rattle.hash_buckets.specs.PageMap.{IsValid, entry_of, load, with_entry, without_entry};
@@ -10,6 +10,7 @@ ghost use Rattle.flat_model.specs.State.{least};
 ghost use Rattle.range_alloc.specs.Joins.{SkipsTo, can_join};
 ghost use Rattle.range_alloc.specs.Ranges.{AreRanges, frame_at, new_page, with_range};
 
+use crate::unmap::span;
 use cl_types::call::Perm;
 use cl_types::limits::SPACE_PAGES;
 use cl_types::numbers::{Space16, Vpn};
@@ -88,9 +89,34 @@ fn last_blocked(table: &Table, space: Space16, first: u32, end: u32) -> Option<u
     None
 }
 
+// A page of a range to try that can't join: its first one, or else the last of those that weren't looked at yet.
+fn blocked(table: &Table, space: Space16, start: u32, looked: u32, end: u32) -> Option<u32>
+    requires ahead { start ≤ looked }
+    requires some { start < end }
+    ensures { IfSome result (λ page.
+        (start ≤ page) × (page < end) × (can_join table.now space.0 page ≡ false)) }
+{
+    if !can_join(table, space, start) {
+        return Some(start);
+    }
+    last_blocked(table, space, looked, end)
+}
+
+// The page behind the range that begins here, or behind this page where none does.
+fn behind(table: &Table, space: Space16, page: u32) -> u32
+    requires ranges { AreRanges table.now }
+    requires page { page < SPACE_PAGES }
+    ensures onward { page < result }
+    ensures inside { result ≤ SPACE_PAGES }
+    ensures mapped { (other : ℕ) → page < other → other < result → IsSome (entry_of table.now (space.0, other)) }
+{
+    page + u32::from(span(table, space, Vpn(page as u16)).max(1))
+}
+
 // The first start from this one on whose pages can each join by themselves, or the end of the space.
 fn candidate(table: &Table, space: Space16, first: u32, pages: u16) -> u32
     requires valid { IsValid table.now }
+    requires ranges { AreRanges table.now }
     requires pages { IsTrue (is_page_count pages) }
     requires within { first ≤ SPACE_PAGES }
     ensures { SkipsTo table.now space.0 pages first result }
@@ -100,11 +126,12 @@ fn candidate(table: &Table, space: Space16, first: u32, pages: u16) -> u32
     // The pages from `start` up to this one can join: they aren't looked at again.
     let mut looked = first;
     while start + pages <= SPACE_PAGES {
-        let Some(page) = last_blocked(table, space, looked, start + pages) else {
+        let end = start + pages;
+        let Some(page) = blocked(table, space, start, looked, end) else {
             return start;
         };
-        looked = start + pages;
-        start = page + 1;
+        start = behind(table, space, page);
+        looked = end.max(start);
     }
     SPACE_PAGES
 }
@@ -112,6 +139,7 @@ fn candidate(table: &Table, space: Space16, first: u32, pages: u16) -> u32
 // The next start to try: where no page of the window is left, starts with a page that can't join are passed over.
 fn next_start(table: &Table, space: Space16, first: u32, joined: u32, pages: u16) -> u32
     requires valid { IsValid table.now }
+    requires ranges { joined ≡ 0 → AreRanges table.now }
     requires pages { IsTrue (is_page_count pages) }
     requires within { first ≤ SPACE_PAGES }
     ensures onward { first ≤ result }

@@ -66,27 +66,30 @@ loop-start-preserved-then-join c =
     }
 
 -- the window without its first page
-left : (c : goal.After-next_start-start-else-join) → IsWindow c.args.table.now c.leave-joined.new.table c.args.space.0 c.args.perm (c.loop-start.start + 1) c.leave-joined.result
+left : (c : goal.After-leave-joined) → IsWindow c.args.table.now c.leave-joined.new.table c.args.space.0 c.args.perm (c.loop-start.start + 1) c.leave-joined.result
 left c =
     let same : c.join.new.table ≡ c.loop-start.table = c.if-join.ensures.unchanged refl in
     window_next _ _ _ _ _ _ c.loop-start.invariant.window c.leave-joined.new.table c.leave-joined.result c.leave-joined.ensures.left
     (λ some. c.leave-joined.ensures.first some ∙ ap (λ (t : PageMap). without_entry t (c.args.space.0, c.loop-start.start)) same) (λ none. c.leave-joined.ensures.unchanged none ∙ same) c.leave-joined.ensures.valid
+
+pub next_start-start-requires-else-join-clause-ranges : goal.next_start-start-requires-else-join-clause-ranges
+next_start-start-requires-else-join-clause-ranges c none = subst AreRanges (sym (window_is_first _ _ _ _ _ _ (left c) none)) c.requires.ranges
 
 pub loop-start-preserved : goal.loop-start-preserved
 loop-start-preserved c =
     let short : c.loop-start.joined < c.args.pages = omega (arith, c.loop-start.invariant.few, c.if-joined-from.false, c.from.ensures) in
     let inside : c.loop-start.start + 1 ≤ 65536 = omega (arith, c.loop-start-test.true) in
     let to = c.next_start-start-else-join in
-    let skips = window_skips _ _ _ _ _ _ (left c) c.args.pages to.result inside to.ensures.stays to.ensures.skips in
+    let skips = window_skips _ _ _ _ _ _ (left c.before) c.args.pages to.result inside to.ensures.stays to.ensures.skips in
     record {
-      window = window_to _ _ _ _ _ _ (left c) to.result to.ensures.stays;
+      window = window_to _ _ _ _ _ _ (left c.before) to.result to.ensures.stays;
       search = c.loop-start.invariant.search
           ∙ least_next _ _ _ _ c.loop-start.start _ (omega (arith, c.loop-start-test.true)) (window_blocks _ _ _ _ _ _ c.loop-start.invariant.window c.args.pages short (sym c.if-join.ensures.joins))
           ∙ ap (least_from c.args.table.now.buckets (keys c.args.table.now.entries) c.args.space.0 c.args.pages (c.loop-start.start + 1)) (omega arith)
           ∙ skips.same;
       low = omega (arith, to.ensures.onward);
       few = omega (arith, c.leave-joined.ensures.left, c.loop-start.invariant.few);
-      high = window_within _ _ _ _ _ _ (left c) to.result (omega (arith, c.leave-joined.ensures.left, c.loop-start.invariant.high, c.loop-start-test.true)) skips.inside to.ensures.stays;
+      high = window_within _ _ _ _ _ _ (left c.before) to.result (omega (arith, c.leave-joined.ensures.left, c.loop-start.invariant.high, c.loop-start-test.true)) skips.inside to.ensures.stays;
     }
 
 pub returns-clause-none : goal.returns-clause-none
