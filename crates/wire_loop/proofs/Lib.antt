@@ -1,7 +1,7 @@
 mod ClockLemmas
-mod RanLemmas
+pub mod RanLemmas
 mod AnswerLemmas
-mod TurnLemmas
+pub mod TurnLemmas
 mod AlikeLemmas
 mod StepLemmas
 mod PollLemmas
