@@ -1,0 +1,4 @@
+pub mod Networks
+pub mod Turns
+pub mod Counts
+pub mod Service
