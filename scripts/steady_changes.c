@@ -35,7 +35,8 @@ int main(int count, char **words)
 {
     if (count != 4) return 2;
     uint64_t rate = strtoull(words[2], NULL, 10), length = strtoull(words[3], NULL, 10) * MILLION;
-    struct sockaddr_in node = { .sin_family = AF_INET, .sin_port = htons((uint16_t)atoi(words[1])), .sin_addr.s_addr = htonl(INADDR_LOOPBACK) };
+    struct sockaddr_in node = { .sin_family = AF_INET, .sin_port = htons((uint16_t)atoi(words[1])) };
+    node.sin_addr.s_addr = htonl(INADDR_LOOPBACK);
     int udp = socket(AF_INET, SOCK_DGRAM, 0);
     struct timeval patience = { .tv_sec = 2 };
     if (connect(udp, (void *)&node, sizeof node) || setsockopt(udp, SOL_SOCKET, SO_RCVTIMEO, &patience, sizeof patience)) return 1;
