@@ -33,7 +33,9 @@ fn tell_error(rt: &HostRuntime, error: &Error) -> ExitCode {
 
 fn main(rt: HostRuntime) -> ExitCode {
     let Ok(words) = words_of(&rt) else {
-        let _lost = eprintln!(rt; "error: the words can't be read, or one of them is no text");
+        let _lost = eprintln!(rt;
+            "error: a word is not valid UTF-8, or there is no memory for the words"
+        );
         return ExitCode::from(BAD_WORDS);
     };
     let matches = match matches_of(rt.alloc(), &words) {

@@ -90,12 +90,13 @@ fn allowed_of<'a>(
     Ok(Some(networks))
 }
 
-// The network of this text, `ADDR/BITS`.
+// The network of this text, `ADDR/BITS`. An address with bits behind the network's is none: it would admit more than it
+// seems to.
 fn network_of(text: &str) -> Option<Network> {
     let (address, bits) = text.split_once('/')?;
     let address = address.parse::<Ipv4Addr>().ok()?.to_bits();
     let bits = bits.parse::<u8>().ok()?;
-    if bits > 32 {
+    if bits > 32 || address.trailing_zeros() < 32 - u32::from(bits) {
         return None;
     }
     Some(Network { address, bits })

@@ -15,7 +15,7 @@ pub fn tell_fault<R: Eprint>(rt: &R, fault: WordFault<'_>) -> io::Result<()> {
             "error: invalid value '{text}' for '--listen <ADDR:PORT>': an IPv4 address and a port from 0 to 65535 are wanted, as 127.0.0.1:7000"
         )?,
         WordFault::Allow(text) => eprintln!(rt;
-            "error: invalid value '{text}' for '--allow <ADDR/BITS>': an IPv4 address and 0 to 32 bits are wanted, as 10.0.0.0/8"
+            "error: invalid value '{text}' for '--allow <ADDR/BITS>': an IPv4 address and 0 to 32 bits are wanted, and no bit of the address behind these, as 10.0.0.0/8"
         )?,
         WordFault::Open(address) => eprintln!(rt;
             "error: '--listen' at {address} needs '--allow <ADDR/BITS>': nothing authenticates a peer, so a node beyond loopback names the addresses that may send"
@@ -57,7 +57,7 @@ pub fn tell_node_fault<R: Eprint>(rt: &R, fault: OpenFault) -> io::Result<()> {
 /// Tells what can't be listened on.
 pub fn tell_bind_fault<R: Eprint>(rt: &R, listen: SocketAddrV4) -> io::Result<()> {
     eprintln!(rt;
-        "error: {listen} can't be listened on: another program has the port, or the address isn't this machine's"
+        "error: {listen} can't be listened on: another program has the port, the address isn't this machine's, or the port is one that this user may not take"
     )
 }
 

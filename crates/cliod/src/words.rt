@@ -22,7 +22,7 @@ fn command<'a>(alloc: Global) -> Result<Command<'a>, AllocError> {
             "65536",
             1,
             65_536,
-            "Pages of 4,096 bytes that it has",
+            "Pages of 4,096 bytes that it has, 1 to 65536",
         ))?
         .arg(number_arg(
             alloc,
@@ -31,7 +31,7 @@ fn command<'a>(alloc: Global) -> Result<Command<'a>, AllocError> {
             "32768",
             2,
             65_536,
-            "Buckets of its page table, a power of two; each holds 4 pages",
+            "Buckets of its page table, a power of two from 2 to 65536; each holds 4 pages",
         ))?
         .arg(number_arg(
             alloc,
@@ -40,7 +40,7 @@ fn command<'a>(alloc: Global) -> Result<Command<'a>, AllocError> {
             "64",
             1,
             1_024,
-            "Zeroed pages that it keeps ready",
+            "Zeroed pages that it keeps ready, 1 to 1024",
         ))?
         .arg(number_arg(
             alloc,
@@ -49,7 +49,7 @@ fn command<'a>(alloc: Global) -> Result<Command<'a>, AllocError> {
             "16384",
             1,
             65_536,
-            "Replies to changing requests that it keeps for repeats",
+            "Replies to changing requests that it keeps for repeats, 1 to 65536",
         ))?
         .arg(kv_arg(alloc))?
         .arg(number_arg(
@@ -59,7 +59,7 @@ fn command<'a>(alloc: Global) -> Result<Command<'a>, AllocError> {
             "10000",
             1,
             1_000_000,
-            "The length of a tick, which must be the clients' too",
+            "The length of a tick, 1 to 1000000; it must be the clients' tick too",
         ))?
         .arg(allow_arg(alloc))?
         .arg(log_arg(alloc))?
@@ -102,7 +102,7 @@ fn kv_arg<'a>(alloc: Global) -> Arg<'a> {
         .value_parser(ValueParser::unsigned(1, 4_096))
         .action(ArgAction::Append)
         .help(
-            "A key-value object of so many records; may come up to 16 times, and the objects are numbered from 0",
+            "A key-value object of 1 to 4096 records; comes up to 16 times, and objects are numbered from 0",
         )
 }
 
@@ -113,7 +113,7 @@ fn allow_arg<'a>(alloc: Global) -> Arg<'a> {
         .value_name("ADDR/BITS")
         .action(ArgAction::Append)
         .help(
-            "Addresses that may send, as 10.0.0.0/8; may come any number of times; others' datagrams are dropped",
+            "Addresses that may send, as 10.0.0.0/8, any number of times; without it 127.0.0.0/8; needed beyond loopback",
         )
 }
 
@@ -131,5 +131,5 @@ fn stats_arg<'a>(alloc: Global) -> Arg<'a> {
         .long("stats")
         .value_name("SECONDS")
         .value_parser(ValueParser::unsigned(1, 86_400))
-        .help("A line of all counts on standard output, every so many seconds")
+        .help("A line of all counts on standard output every 1 to 86400 seconds")
 }
