@@ -13,10 +13,12 @@ use data_path::PageStore;
 use std::io;
 
 const FULL: Space16 = Space16(1);
+
 const HOLES: Space16 = Space16(2);
 
 /// How many pages a hole has, and how many ranges of as many pages fill a space.
 const HOLE: u16 = 256;
+
 const HOLE_RANGES: u32 = 255;
 
 /// Maps so many ranges of so many pages.
